@@ -1,0 +1,1 @@
+// The document's examples, proved about the definitions. It has no code.

@@ -1,0 +1,1 @@
+// The logic over the history. It has no code: its meaning stands in specs/.

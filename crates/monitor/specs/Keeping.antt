@@ -1,0 +1,67 @@
+-- What a monitor keeps, when that is at fault, and the start.
+use mathlib.Core.Bool.{Bool, true, false, cond, _&&_}
+use Prim.Native.Nat.{ℕ, zero, suc, _^_}
+use lib.Dec.{leb, ltb}
+use lib.IntN.{pos}
+use lib.ListN.{getD, replicate}
+use Rattle.values.specs.declared.Truth.{Truth}
+use Rattle.values.specs.declared.Number.{Number}
+use Rattle.values.specs.Numbers.{isTime}
+use Rattle.refusals.specs.declared.Refusal.{Refusal}
+use Rattle.refusals.specs.declared.Answer.{Answer}
+use Rattle.refusals.specs.Numbering.{unless, andThen, firstFault}
+use Rattle.table.specs.declared.Table.{Table}
+use Rattle.table.specs.Limits.{limits}
+use Rattle.table.specs.Tables.{emptyTable}
+use Rattle.table.specs.Faults.{tableFault, numberFault, asUnsound, unsoundTable}
+use Rattle.monitor.specs.declared.Monitor.{Monitor}
+use Rattle.monitor.specs.declared.Started.{Started}
+
+-- a kept time: one more than the time, and 0 where there is none
+abbrev pub keptTime : ℕ → Number
+keptTime zero = Number.Undefined
+keptTime (suc t) = Number.Whole (pos t)
+
+-- a kept time that is none, or "0 to 2^47−1"
+abbrev pub keptFits : ℕ → Bool
+keptFits c = leb c (2 ^ 47)
+
+abbrev pub cellAt : Monitor → ℕ → ℕ
+cellAt m k = getD (m .cells) k 0
+
+abbrev pub heldIn : Monitor → ℕ → Number
+heldIn m x = getD (m .held) x (record { number = Number.Undefined }) .number
+
+abbrev pub reportedIn : Monitor → ℕ → Truth
+reportedIn m i = getD (m .reported) i (record { truth = Truth.Undefined }) .truth
+
+-- "a kept number or time out of range"
+unfoldable pub keptFault : Monitor → Answer
+keptFault m =
+    andThen (unless (keptFits (m .last)) Refusal.Unsound)
+    (andThen (firstFault (limits .variables) (λ x. numberFault (heldIn m x)))
+    (firstFault (limits .slots) (λ k. unless (keptFits (cellAt m k)) Refusal.Unsound)))
+
+-- "29: monitor ... that the writer would refuse with 4, 7, 8 or 13, or a kept number or time out of range"
+unfoldable pub unsound : Monitor → Answer
+unsound m = asUnsound (andThen (tableFault (m .table)) (keptFault m))
+
+-- "a monitor that holds that table and no accepted step yet"
+abbrev pub fresh : Table → Monitor
+fresh t =
+    record {
+      table = t;
+      last = 0;
+      reported = replicate (limits .imports) (record { truth = Truth.Undefined });
+      held = t .variables;
+      cells = replicate (limits .slots) 0;
+    }
+
+-- "A start on a table at fault gives 29 and the monitor of the empty table"
+abbrev pub startReply : Answer → Table → Started
+startReply Answer.Accepted t = record { answer = Answer.Accepted; monitor = fresh t }
+startReply (Answer.Refused r) t = record { answer = Answer.Refused r; monitor = fresh emptyTable }
+
+-- what a start answers
+unfoldable pub startOn : Table → Started
+startOn t = startReply (unsoundTable t) t

@@ -1,0 +1,55 @@
+-- A step read from front to back: a function of the imports' sorts, of the last time and of the bytes alone.
+use mathlib.Core.Bool.{Bool, true, false, cond}
+use mathlib.Core.List.{List, [], _∷_, _++_}
+use Prim.Native.Nat.{ℕ, zero, suc}
+use lib.Dec.{leb, ltb, eqb}
+use Rattle.values.specs.declared.Truth.{Truth}
+use Rattle.values.specs.declared.Number.{Number}
+use Rattle.refusals.specs.declared.Refusal.{Refusal}
+use Rattle.refusals.specs.Numbering.{unless, andThen}
+use Rattle.bits.specs.Twos.{signed}
+use Rattle.bits.specs.Reading.{Got, Reading, give, _>>=_, field, whatever, padding, ended}
+use Rattle.table.specs.declared.Table.{Table}
+use Rattle.table.specs.Tables.{isEvent}
+use Rattle.step.specs.Steps.{Told, condition, event, Report, Step}
+
+-- "for a condition 2 bits (00 false, 01 true, 10 undefined)"
+abbrev pub truthCode : ℕ → Truth
+truthCode c = cond (eqb c 0) Truth.False (cond (eqb c 1) Truth.True Truth.Undefined)
+
+-- "25: condition report 11"
+unfoldable pub conditionReport : Reading Told
+conditionReport = field Refusal.StepCut 2 (λ c. unless (ltb c 3) Refusal.ConditionReport) >>= λ c. give (condition (truthCode c))
+
+-- the 48-bit value of an event, where the bit before it is 1
+abbrev pub eventValue : Bool → Reading Told
+eventValue true = field Refusal.StepCut 48 whatever >>= λ v. give (event (Number.Whole (signed v)))
+eventValue false = give (event Number.Undefined)
+
+-- "for an event 1 bit and, if that is 1, a 48-bit value"
+unfoldable pub eventReport : Reading Told
+eventReport = field Refusal.StepCut 1 whatever >>= λ bit. eventValue (eqb bit 1)
+
+-- what follows the import number, for an event and for a condition
+abbrev pub reportFor : Bool → Reading Told
+reportFor true = eventReport
+reportFor false = conditionReport
+
+-- "the reports, import numbers strictly rising": `least` is the least import number that may come next; "23 before 24"
+unfoldable pub reports : Table → ℕ → ℕ → List Report → Reading (List Report)
+reports t zero least sofar = give sofar
+reports t (suc left) least sofar = do
+  i ← field Refusal.StepCut 6 (λ i. andThen (unless (ltb i (t .q)) Refusal.StepImport) (unless (leb least i) Refusal.ImportOrder))
+  told ← reportFor (isEvent t i)
+  reports t left (suc i) (sofar ++ (record { imported = i; told = told } ∷ []))
+
+-- "Time, 47 bits; report count, 6 bits; then the reports ... Zero bits up to a whole byte end it."
+-- `earliest` is the earliest time that may come: one more than the last accepted step's, 0 before any
+unfoldable pub readStep : Table → ℕ → Reading Step
+readStep t earliest = do
+  time ← field Refusal.StepCut 47 (λ time. unless (leb earliest time) Refusal.Time)
+  count ← field Refusal.StepCut 6 whatever
+  told ← reports t count 0 []
+  zeros ← padding Refusal.StepCut Refusal.StepPadding
+  end ← ended Refusal.StepLeftOver
+  give (record { time = time; reports = told })

@@ -1,0 +1,1 @@
+// A step, bit by bit. Its meaning stands in specs/.

@@ -1,0 +1,1 @@
+// The lines of a recorded stream. Their meaning stands in specs/.

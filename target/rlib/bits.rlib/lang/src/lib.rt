@@ -1,0 +1,1 @@
+pub enum Field { Missing , There ( u64 ) , }

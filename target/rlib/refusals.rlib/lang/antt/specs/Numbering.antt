@@ -1,0 +1,55 @@
+-- "Refusal numbers and their order": the number of each refusal.
+use mathlib.Core.Bool.{Bool, true, false}
+use Prim.Native.Nat.{ℕ, zero, suc}
+use Rattle.refusals.specs.declared.Answer.{Answer}
+use Rattle.refusals.specs.declared.Answer.the-variants.{Accepted, Refused}
+use Rattle.refusals.specs.declared.Refusal.{Refusal}
+use Rattle.refusals.specs.declared.Refusal.the-variants.{TooLong, Cut, Format, EntryCount, ImportCount, VariableCount, HeaderBits, TableLimits, Initial, Kind, Operand, Sort, Padding, Label, LeftOver, NoRoom, Range, StepCut, Time, StepImport, ImportOrder, ConditionReport, StepPadding, StepLeftOver, Unsound, NoEntry}
+
+abbrev pub numberOf : Refusal → ℕ
+numberOf TooLong = 1
+numberOf Cut = 2
+numberOf Format = 3
+numberOf EntryCount = 4
+numberOf ImportCount = 4
+numberOf VariableCount = 4
+numberOf HeaderBits = 4
+numberOf TableLimits = 4
+numberOf Initial = 5
+numberOf Kind = 6
+numberOf Operand = 7
+numberOf Sort = 8
+numberOf Padding = 9
+numberOf Label = 10
+numberOf LeftOver = 11
+numberOf NoRoom = 12
+numberOf Range = 13
+numberOf StepCut = 21
+numberOf Time = 22
+numberOf StepImport = 23
+numberOf ImportOrder = 24
+numberOf ConditionReport = 25
+numberOf StepPadding = 26
+numberOf StepLeftOver = 27
+numberOf Unsound = 29
+numberOf NoEntry = 30
+
+-- the number of an answer: 0 where nothing is refused
+abbrev pub answerNumber : Answer → ℕ
+answerNumber Accepted = 0
+answerNumber (Refused r) = numberOf r
+
+-- accepted if so, else that refusal
+abbrev pub unless : Bool → Refusal → Answer
+unless true r = Accepted
+unless false r = Refused r
+
+-- "the first fault decides"
+abbrev pub andThen : Answer → Answer → Answer
+andThen Accepted b = b
+andThen (Refused r) b = Refused r
+
+-- the first fault among f 0, f 1, ..., f (n - 1)
+unfoldable pub firstFault : ℕ → (ℕ → Answer) → Answer
+firstFault zero f = Accepted
+firstFault (suc n) f = andThen (firstFault n f) (f n)

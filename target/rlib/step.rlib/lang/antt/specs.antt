@@ -1,0 +1,3 @@
+-- "A step, bit by bit."
+pub mod Steps
+pub mod Reader

@@ -1,0 +1,54 @@
+-- Faults of a table: refusals 4, 7, 8 and 13 in the order of the writer's check.
+use mathlib.Core.Bool.{Bool, cond, _&&_}
+use mathlib.Core.List.{List, [], _∷_}
+use Prim.Native.Nat.{ℕ, zero, suc}
+use lib.Dec.{leb, ltb}
+use Rattle.values.specs.declared.Number.{Number}
+use Rattle.values.specs.Numbers.{inRange}
+use Rattle.refusals.specs.declared.Refusal.{Refusal}
+use Rattle.refusals.specs.declared.Answer.{Answer}
+use Rattle.refusals.specs.Numbering.{unless, andThen, firstFault}
+use Rattle.table.specs.declared.Table.{Table}
+use Rattle.table.specs.Limits.{limits}
+use Rattle.table.specs.Kinds.{Operand, entry, imported, variable, constant, operandsOf, sortOf, sameSort}
+use Rattle.table.specs.Tables.{entryAt, importSort, initialOf, unusedSlots}
+
+-- "7: operand not an earlier entry, import ≥ q, or variable ≥ v"; "8: operand or import of the wrong sort"; "13: number outside 48 bits"
+-- "operand by operand, 7 before 8"
+unfoldable pub operandFault : Table → ℕ → Operand → Answer
+operandFault t k (entry s a) = andThen (unless (ltb a k) Refusal.Operand) (unless (sameSort (sortOf (entryAt t a)) s) Refusal.Sort)
+operandFault t k (imported s i) = andThen (unless (ltb i (t .q)) Refusal.Operand) (unless (sameSort (importSort t i) s) Refusal.Sort)
+operandFault t k (variable x) = unless (ltb x (t .v)) Refusal.Operand
+operandFault t k (constant z) = unless (inRange z) Refusal.Range
+
+-- the first fault among operands, in order
+unfoldable pub operandsFault : Table → ℕ → List Operand → Answer
+operandsFault t k [] = Answer.Accepted
+operandsFault t k (o ∷ os) = andThen (operandFault t k o) (operandsFault t k os)
+
+-- "4: n, q or v outside its limits ...; in the writer, also an unused slot not as above"
+unfoldable pub limitsFault : Table → Answer
+limitsFault t =
+    unless (leb 1 (t .n) && leb (t .n) (limits .entries) && leb (t .q) (limits .imports) && leb (t .v) (limits .variables) && unusedSlots t)
+    Refusal.TableLimits
+
+-- "variables (13; ...)"
+unfoldable pub numberFault : Number → Answer
+numberFault Number.Undefined = Answer.Accepted
+numberFault (Number.Whole z) = unless (inRange z) Refusal.Range
+
+-- "it checks 4, then variables (13; ...), entries in order (7, 8, 13)"
+unfoldable pub tableFault : Table → Answer
+tableFault t =
+    andThen (limitsFault t)
+    (andThen (firstFault (t .v) (λ x. numberFault (initialOf t x)))
+    (firstFault (t .n) (λ k. operandsFault t k (operandsOf (entryAt t k)))))
+
+-- any fault is 29
+abbrev pub asUnsound : Answer → Answer
+asUnsound Answer.Accepted = Answer.Accepted
+asUnsound (Answer.Refused r) = Answer.Refused Refusal.Unsound
+
+-- "29: ... table that the writer would refuse with 4, 7, 8 or 13"
+unfoldable pub unsoundTable : Table → Answer
+unsoundTable t = asUnsound (tableFault t)
