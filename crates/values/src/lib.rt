@@ -1,6 +1,4 @@
-// The values of document 01 and their three-valued operators.
-ghost use mathlib.Core.Path.{_≡_};
-ghost use Rattle.values.specs.Truths.{notT, orT, andT, impliesT, definedT};
+// The values of document 01: conditions, numbers and results.
 
 // "A condition is true, false or undefined."
 pub enum Truth {
@@ -15,7 +13,7 @@ pub enum Number {
     Whole(i64),
 }
 
-// The result of one entry at one step.
+// The result of one entry at one step; specs/Outcomes.antt has the document's word for each.
 pub enum Outcome {
     Nothing,
     Condition(Truth),
@@ -26,35 +24,7 @@ pub enum Outcome {
     Property(Truth),
 }
 
-// One result slot of a step.
+// "A step's result holds one result per entry slot."
 pub struct Slot {
     pub outcome: Outcome,
-}
-
-pub fn negation(a: Truth) -> Truth
-    ensures { λ r. ⌜ r ≡ notT a ⌝ }
-{
-    match a {
-        Truth::Undefined => Truth::Undefined,
-        Truth::False => Truth::True,
-        Truth::True => Truth::False,
-    }
-}
-
-pub fn disjunction(a: Truth, b: Truth) -> Truth
-    ensures { λ r. ⌜ r ≡ orT a b ⌝ }
-{
-    match a {
-        Truth::True => Truth::True,
-        Truth::False => b,
-        Truth::Undefined => match b {
-            Truth::True => Truth::True,
-            Truth::False => Truth::Undefined,
-            Truth::Undefined => Truth::Undefined,
-        },
-    }
-}
-
-pub fn slots() -> [Slot; 128] {
-    [Slot { outcome: Outcome::Nothing }; 128]
 }

@@ -1,4 +1,0 @@
--- Fields of 1 to 48 bits in a string of bytes, and reading one field after another.
-pub mod Bits
-pub mod Twos
-pub mod Reading

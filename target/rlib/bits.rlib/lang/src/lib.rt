@@ -1,1 +1,0 @@
-pub enum Field { Missing , There ( u64 ) , }

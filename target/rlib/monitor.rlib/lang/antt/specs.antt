@@ -1,3 +1,0 @@
--- The monitor: what it keeps, when it is at fault, and what a start and a step answer.
-pub mod Keeping
-pub mod Stepping

@@ -1,2 +1,0 @@
--- "Reach": the least set of entries that a rule can depend on.
-pub mod Reaching

@@ -1,3 +1,0 @@
--- "A step, bit by bit."
-pub mod Steps
-pub mod Reader

@@ -1,4 +1,0 @@
--- "One recorded stream, whole": what the program prints for any input.
-pub mod Records
-pub mod Lines
-pub mod Replay
