@@ -2,3 +2,4 @@
 pub mod Meaning
 pub mod History
 pub mod Offered
+pub mod Marked
