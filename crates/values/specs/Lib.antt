@@ -2,3 +2,4 @@
 pub mod Truths
 pub mod Numbers
 pub mod Outcomes
+pub mod Adding
