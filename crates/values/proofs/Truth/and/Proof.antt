@@ -1,3 +1,4 @@
+-- `a and b` by what `not` and `or` ensure.
 use borrow.Author.Needs.{needs}
 use Rattle.values.proofs.Truth.and.Statement.{statement}
 use Rattle.values.proofs.Truth.and.Tie as tie

@@ -1,3 +1,4 @@
+-- `a implies b` by what `not` and `or` ensure.
 use borrow.Author.Needs.{needs}
 use Rattle.values.proofs.Truth.implies.Statement.{statement}
 use Rattle.values.proofs.Truth.implies.Tie as tie

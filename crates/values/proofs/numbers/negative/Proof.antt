@@ -1,10 +1,10 @@
-use borrow.Author.Needs.{needs}
-use Rattle.values.proofs.Whole.{plain, below-zero}
+-- The test, of the number read back from its bits.
+use Rattle.values.proofs.Whole.{is-negative}
 use Rattle.values.proofs.numbers.negative.Statement.{statement}
 use Rattle.values.proofs.numbers.negative.Tie as tie
 
 returns : tie.Need-returns
-returns c = simp (plain (c .fits .z)) (below-zero (c .args .z))
+returns c = is-negative (c .fits .z)
 
 pub negative-spec : {M : Type 1} → statement M
 negative-spec = tie.close (tie.spec returns)
