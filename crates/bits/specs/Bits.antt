@@ -27,7 +27,7 @@ wholly s at w = leb (at + w) (8 * length s)
 abbrev pub widest : ℕ
 widest = 48
 
--- "a field that isn't wholly there" is an answer of its own
+-- "a field that isn't wholly there" is an answer of its own; no field is wider than the widest
 unfoldable pub fieldAt : List ℕ → ℕ → ℕ → Field
 fieldAt s at w = cond (leb w widest && wholly s at w) (Field.There (bitsAt s at w)) Field.Missing
 

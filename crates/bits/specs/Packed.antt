@@ -2,7 +2,7 @@
 use mathlib.Core.List.{List, [], _∷_, map}
 use mathlib.Core.Path.{_≡_, refl}
 use Prim.Native.Nat.{ℕ, _^_, _-_}
-use lib.IntN.{ℤ, pos, negsuc}
+use lib.IntN.{pos, negsuc}
 use Rattle.bits.specs.declared.Field.{Field}
 use Rattle.bits.specs.Bits.{Part, fieldAt, bitsOfAll, bytesOf, theBits}
 use Rattle.bits.specs.Twos.{signed, unsigned, theTwos}

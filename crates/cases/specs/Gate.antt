@@ -1,7 +1,6 @@
 -- The gate rule of source document 003, section 3.5, and two closings of its gate.
 use mathlib.Core.Bool.{true, false}
 use mathlib.Core.List.{List, [], _∷_}
-use Prim.Native.Nat.{ℕ}
 use lib.IntN.{pos}
 use Rattle.values.specs.declared.Truth.{Truth}
 use Rattle.values.specs.declared.Number.{Number}
@@ -47,4 +46,4 @@ twoClosings =
 
 -- the gate has only just been told to close: no time has elapsed
 abbrev pub secondClosing : Case
-secondClosing = record { marked = 3; table = gate; steps = twoClosings; asked = 16; says = not-violated }
+secondClosing = record { table = gate; steps = twoClosings; asked = 16; says = not-violated }

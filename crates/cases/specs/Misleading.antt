@@ -1,8 +1,8 @@
 -- "Four readings that mislead": each a wrong definition beside the right one, and the case at which it differs.
-use mathlib.Core.Bool.{Bool, true, false, _&&_, _||_}
+use mathlib.Core.Bool.{Bool, false, _&&_, _||_}
 use mathlib.Core.List.{List, [], _∷_, map, reverse}
 use mathlib.Core.Path.{_≡_, refl}
-use Prim.Native.Nat.{ℕ, zero, suc, _<_}
+use Prim.Native.Nat.{ℕ, zero, suc}
 use native.Mathlib.Omega.{arith}
 use lib.Dec.{T, ltb, eqb, lit<, leb·suc-zero, eqb·suc-zero}
 use Rattle.values.specs.declared.Truth.{Truth}

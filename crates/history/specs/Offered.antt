@@ -21,7 +21,7 @@ abbrev pub grown : History → Got Step → History
 grown h (got s end) = s ∷ h
 grown h (refused r) = h
 
--- the history after byte strings were offered, the latest first
+-- the history after byte strings were offered to a sound table; the strings too stand the latest first
 unfoldable pub historyOf : Table → List (List ℕ) → History
 historyOf t [] = []
 historyOf t (bytes ∷ before) = let h = historyOf t before in grown h (offered t h bytes)

@@ -1,7 +1,7 @@
 -- Laws of the pair: it is what document 01's words say, and it follows from the step before.
 use mathlib.Core.Bool.{Bool, true, false, not, _&&_, _||_, and-false, or-false, or-assoc, and-assoc, and-comm}
-use mathlib.Core.List.{List, [], _∷_}
-use mathlib.Core.Logic.{_↔_, inl, inr, ⊎-elim}
+use mathlib.Core.List.{List, _∷_}
+use mathlib.Core.Logic.{_↔_, ⊎-elim}
 use mathlib.Core.Path.{_≡_, refl, sym, _∙_, ap, subst, fun-ext}
 use Prim.Native.Nat.{ℕ, zero, suc, _≤_, _<_}
 use native.Mathlib.Nat.{not-suc-le-zero, eq-or-lt-of-le, le-of-suc-le-suc}

@@ -1,12 +1,11 @@
 -- What a monitor keeps, when that is at fault, and the start.
-use mathlib.Core.Bool.{Bool, true, false, cond, _&&_}
+use mathlib.Core.Bool.{Bool}
 use Prim.Native.Nat.{ℕ, zero, suc, _^_}
-use lib.Dec.{leb, ltb}
+use lib.Dec.{leb}
 use lib.IntN.{pos}
 use lib.ListN.{getD, replicate}
 use Rattle.values.specs.declared.Truth.{Truth}
 use Rattle.values.specs.declared.Number.{Number}
-use Rattle.values.specs.Numbers.{isTime}
 use Rattle.refusals.specs.declared.Refusal.{Refusal}
 use Rattle.refusals.specs.declared.Answer.{Answer}
 use Rattle.refusals.specs.Numbering.{unless, andThen, firstFault}
@@ -22,16 +21,23 @@ abbrev pub keptTime : ℕ → Number
 keptTime zero = Number.Undefined
 keptTime (suc t) = Number.Whole (pos t)
 
--- a kept time that is none, or "0 to 2^47−1"
+-- "Times are milliseconds, 0 to 2^47−1": a kept time that is none, or one of these
 abbrev pub keptFits : ℕ → Bool
 keptFits c = leb c (2 ^ 47)
 
+-- the time of the last accepted step, undefined before any
+abbrev pub lastTime : Monitor → Number
+lastTime m = keptTime (m .last)
+
+-- what entry k remembers
 abbrev pub cellAt : Monitor → ℕ → ℕ
 cellAt m k = getD (m .cells) k 0
 
+-- the number that a variable holds
 abbrev pub heldIn : Monitor → ℕ → Number
 heldIn m x = getD (m .held) x (record { number = Number.Undefined }) .number
 
+-- the last reported value of an import
 abbrev pub reportedIn : Monitor → ℕ → Truth
 reportedIn m i = getD (m .reported) i (record { truth = Truth.Undefined }) .truth
 

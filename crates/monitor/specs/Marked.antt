@@ -1,8 +1,6 @@
 -- The marked examples again, by a monitor that knows only what it keeps.
 use mathlib.Core.List.{List, [], _∷_, map}
 use mathlib.Core.Path.{_≡_, refl}
-use Prim.Native.Nat.{ℕ}
-use Rattle.values.specs.declared.Outcome.{Outcome}
 use Rattle.values.specs.Outcomes.{Said, said}
 use Rattle.refusals.specs.declared.Answer.{Answer}
 use Rattle.bits.specs.Bits.{theBits}

@@ -1,10 +1,9 @@
 -- One step of a monitor, from what it keeps.
-use mathlib.Core.Bool.{Bool, true, false, cond, not, _&&_, _||_}
-use mathlib.Core.List.{List, [], _∷_, map}
+use mathlib.Core.Bool.{Bool, cond, not, _&&_, _||_}
+use mathlib.Core.List.{List}
 use mathlib.Core.Option.{Option, none, some}
 use Prim.Native.Nat.{ℕ, zero, suc}
 use lib.Dec.{ltb}
-use lib.IntN.{pos}
 use lib.ListN.{getD, set, replicate}
 use Rattle.values.specs.declared.Truth.{Truth}
 use Rattle.values.specs.declared.Number.{Number}
@@ -56,7 +55,7 @@ openNow wasOpen first second = (wasOpen || first) && not second
 abbrev pub latestNow : Bool → ℕ → ℕ → ℕ
 latestNow occurs time kept = cond occurs (suc time) kept
 
--- what an entry's cell marks
+-- whether a cell is marked: any number above 0 is a mark
 abbrev pub marked : ℕ → Bool
 marked cell = ltb 0 cell
 

@@ -13,13 +13,14 @@ pub struct TruthSlot {
 // A kept time is one more than the time, and 0 where there is none.
 pub struct Monitor {
     pub table: Table,
-    // the time of the last accepted step
+    // the kept time of the last accepted step
     pub last: u64,
     // the last reported value of each condition import
     pub reported: [TruthSlot; Table::IMPORTS],
     // the number that each variable holds
     pub held: [VariableSlot; Table::VARIABLES],
-    // what each entry remembers: 1 or 0 for a pair, a start and an end, a kept time for a time of an event
+    // what each entry remembers: above 0 for a pair that is open, a start whose condition was true and an end whose
+    // condition was false; a kept time for a time of an event
     pub cells: [u64; Table::ENTRIES],
 }
 

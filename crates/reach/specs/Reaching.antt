@@ -3,10 +3,10 @@ use mathlib.Core.Bool.{Bool, true, false, _&&_, _||_, or-true}
 use mathlib.Core.List.{List, [], _∷_}
 use mathlib.Core.Option.{Option, none, some}
 use mathlib.Core.Logic.{_↔_}
-use mathlib.Core.Path.{_≡_, refl}
+use mathlib.Core.Path.{_≡_}
 use Prim.Native.Nat.{ℕ, _<_, _≤_}
 use lib.Dec.{T, ltb, eqb}
-use lib.ListN.{getD, replicate}
+use lib.ListN.{length, getD, replicate}
 use Rattle.refusals.specs.declared.Refusal.{Refusal}
 use Rattle.refusals.specs.declared.Answer.{Answer}
 use Rattle.refusals.specs.Numbering.{unless, andThen}
@@ -31,7 +31,7 @@ isOperand (imported s i ∷ os) o = isOperand os o
 isOperand (variable x ∷ os) o = isOperand os o
 isOperand (constant z ∷ os) o = isOperand os o
 
--- a read of a variable: "16 variable"; an update is no read
+-- a read of a variable: "16 variable", the only kind whose first operand is a variable; an update is no read
 unfoldable pub isRead : List Operand → ℕ → Bool
 isRead [] x = false
 isRead (entry s a ∷ os) x = false
@@ -58,7 +58,7 @@ pub record Least (leads : ℕ → ℕ → Bool) (n k : ℕ) (S : Entries) : Type
   pub closed : Closed leads n S
   pub least : (other : Entries) → T (other k) → Closed leads n other → (j : ℕ) → j < n → T (S j) → T (other j)
 
--- the import that an entry names: "kind 0, 9 or 20"
+-- the import that an entry names: "kind 0, 9 or 20", which alone have an import for an operand
 unfoldable pub namesImport : List Operand → ℕ → Bool
 namesImport [] i = false
 namesImport (entry s a ∷ os) i = false
@@ -66,7 +66,7 @@ namesImport (imported s j ∷ os) i = eqb j i
 namesImport (variable x ∷ os) i = false
 namesImport (constant z ∷ os) i = false
 
--- "the clock exactly if the set holds kind 19 or 21"
+-- "the clock exactly if the set holds kind 19 or 21"; the table decides nothing today
 unfoldable pub readsClock : Table → Entry → Bool
 readsClock t e = eqb (kindOf e) 19 || eqb (kindOf e) 21
 
@@ -84,6 +84,7 @@ markedIn r j = getD (r .entries) j false
 
 -- "A reach shows all three: its entries, its imports and whether it has the clock."
 pub record Shows (t : Table) (k : ℕ) (r : Reach) : Type 0 where
+  pub slots : (length (r .entries) ≡ limits .slots) × (length (r .imports) ≡ limits .imports)
   pub entries : Least (leadsTo t) (t .n) k (markedIn r)
   pub unused : (j : ℕ) → t .n ≤ j → markedIn r j ≡ false
   pub imports : (i : ℕ) → getD (r .imports) i false ≡ reachesImport t (markedIn r) i

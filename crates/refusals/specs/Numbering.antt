@@ -34,11 +34,6 @@ numberOf StepLeftOver = 27
 numberOf Unsound = 29
 numberOf NoEntry = 30
 
--- the number of an answer: 0 where nothing is refused
-abbrev pub answerNumber : Answer → ℕ
-answerNumber Accepted = 0
-answerNumber (Refused r) = numberOf r
-
 -- accepted if so, else that refusal
 abbrev pub unless : Bool → Refusal → Answer
 unless true r = Accepted

@@ -7,7 +7,7 @@ use lib.ListN.{take, drop}
 use Rattle.refusals.specs.declared.Refusal.{Refusal}
 use Rattle.refusals.specs.Numbering.{unless}
 use Rattle.bits.specs.Bits.{wholly}
-use Rattle.bits.specs.Reading.{Reading, got, refused, give, _>>=_, judged, field}
+use Rattle.bits.specs.Reading.{Reading, refused, give, _>>=_, judged, field}
 use Rattle.table.specs.Limits.{limits}
 use Rattle.script.specs.declared.Span.{Span}
 
@@ -16,6 +16,7 @@ unfoldable pub printable : List ℕ → Bool
 printable [] = true
 printable (b ∷ bs) = leb 0x20 b && leb b 0x7E && printable bs
 
+-- labels begin at a whole byte, so that byte `at / 8` is the next one
 -- "a label's text is one field": 2 where it isn't wholly there, 10 where "a byte [is] outside 0x20 to 0x7E"
 unfoldable pub text : ℕ → Reading Span
 text size s at =

@@ -1,6 +1,5 @@
 -- Operands as fields: how wide each is, and which number stands for it.
 use Prim.Native.Nat.{ℕ}
-use lib.IntN.{ℤ}
 use Rattle.bits.specs.Twos.{signed, unsigned}
 use Rattle.table.specs.Limits.{limits}
 use Rattle.table.specs.Kinds.{Operand, entry, imported, variable, constant}

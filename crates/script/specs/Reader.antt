@@ -1,5 +1,5 @@
 -- "The script, bit by bit", read from front to back.
-use mathlib.Core.Bool.{Bool, true, false, cond, _&&_, _||_}
+use mathlib.Core.Bool.{Bool, cond, _&&_, _||_}
 use mathlib.Core.List.{List, [], _∷_}
 use Prim.Native.Nat.{ℕ, zero, suc, _/_}
 use lib.Dec.{leb, ltb, eqb}
@@ -9,7 +9,7 @@ use Rattle.refusals.specs.declared.Refusal.{Refusal}
 use Rattle.refusals.specs.declared.Answer.{Answer}
 use Rattle.refusals.specs.Numbering.{unless}
 use Rattle.bits.specs.Twos.{signed}
-use Rattle.bits.specs.Reading.{Got, got, refused, Reading, give, onward, _>>=_, field, whatever, padding, ended}
+use Rattle.bits.specs.Reading.{Got, got, refused, Reading, give, _>>=_, field, whatever, padding, ended}
 use Rattle.table.specs.declared.Entry.{Entry}
 use Rattle.table.specs.declared.Table.{Table}
 use Rattle.table.specs.Limits.{limits}
@@ -63,7 +63,7 @@ variables (suc left) x t = do
   number ← field Refusal.Cut 48 (λ v. unless (eqb bit 1 || eqb v 0) Refusal.Initial)
   variables left (suc x) (withVariable t x (starting bit number))
 
--- an operand of entry k: 2, then 7, then 8
+-- an operand of entry k: 2, then 7, then 8; 48 bits always hold a number in range
 unfoldable pub operand : Table → ℕ → (ℕ → Operand) → Reading ℕ
 operand t k o = field Refusal.Cut (widthOf (o 0)) (λ v. operandFault t k (o v))
 

@@ -8,14 +8,13 @@ use Rattle.values.specs.declared.Number.{Number}
 use Rattle.refusals.specs.declared.Refusal.{Refusal}
 use Rattle.refusals.specs.declared.Answer.{Answer}
 use Rattle.refusals.specs.Numbering.{unless, andThen}
-use Rattle.bits.specs.Bits.{Part, bitsOfAll, bytesOf, listTo}
+use Rattle.bits.specs.Bits.{Part, bitsOfAll, bytesOf}
 use Rattle.bits.specs.Twos.{unsigned}
 use Rattle.bits.specs.Reading.{Got, got, refused, _>>=_, ended}
-use Rattle.table.specs.declared.Sort.{Sort}
 use Rattle.table.specs.declared.Entry.{Entry}
 use Rattle.table.specs.declared.Table.{Table}
 use Rattle.table.specs.Limits.{limits}
-use Rattle.table.specs.Kinds.{Operand, kindOf, operandsOf}
+use Rattle.table.specs.Kinds.{kindOf, operandsOf}
 use Rattle.table.specs.Tables.{isEvent, entryAt, initialOf, labelsBefore}
 use Rattle.table.specs.Faults.{tableFault}
 use Rattle.script.specs.declared.Written.{Written}

@@ -1,7 +1,7 @@
--- A step read from front to back: a function of the imports' sorts, of the last time and of the bytes alone.
+-- A step read from front to back: of a table it looks at the imports alone, and of what came before at the last time.
 use mathlib.Core.Bool.{Bool, true, false, cond}
 use mathlib.Core.List.{List, [], _∷_, _++_}
-use mathlib.Core.Path.{_≡_, refl}
+use mathlib.Core.Path.{_≡_}
 use Prim.Native.Nat.{ℕ, zero, suc}
 use lib.Dec.{leb, ltb, eqb}
 use Rattle.values.specs.declared.Truth.{Truth}
@@ -12,7 +12,7 @@ use Rattle.refusals.specs.Numbering.{unless, andThen}
 use Rattle.bits.specs.declared.Field.{Field}
 use Rattle.bits.specs.Bits.{fieldAt}
 use Rattle.bits.specs.Twos.{signed}
-use Rattle.bits.specs.Reading.{Got, refused, Reading, give, _>>=_, field, whatever, padding, ended}
+use Rattle.bits.specs.Reading.{refused, Reading, give, _>>=_, field, whatever, padding, ended}
 use Rattle.table.specs.declared.Table.{Table}
 use Rattle.table.specs.Tables.{isEvent}
 use Rattle.step.specs.Steps.{Told, condition, event, Report, Step}

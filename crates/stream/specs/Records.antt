@@ -28,7 +28,7 @@ pub record Recorded : Type 0 where
 abbrev pub behind : List ℕ → Recorded → Recorded
 behind bytes later = record { records = bytes ∷ later .records; cut = later .cut }
 
--- at most so many records: a stream has fewer records than bytes
+-- at most so many records: each takes two bytes or more
 unfoldable pub recordsTo : ℕ → List ℕ → Recorded
 recordsTo zero input = record { records = []; cut = false }
 recordsTo (suc most) input =

@@ -3,7 +3,6 @@ use mathlib.Core.Bool.{Bool, true, false}
 use mathlib.Core.List.{List, [], _∷_, _++_}
 use Prim.Native.Nat.{ℕ, zero, suc}
 use lib.ListN.{take, drop}
-use Rattle.values.specs.declared.Outcome.{Outcome}
 use Rattle.bits.specs.Reading.{Got, got, refused}
 use Rattle.table.specs.declared.Table.{Table}
 use Rattle.script.specs.declared.Label.{Label}
@@ -11,7 +10,7 @@ use Rattle.script.specs.Reader.{scriptOf, labelOf}
 use Rattle.step.specs.Steps.{Step}
 use Rattle.history.specs.History.{History, Row, rowAt, latestRow, momentsBy, judge}
 use Rattle.history.specs.Offered.{offered, grown}
-use Rattle.stream.specs.Records.{Recorded, recordsOf}
+use Rattle.stream.specs.Records.{recordsOf}
 use Rattle.stream.specs.Lines.{scriptLine, scriptRefusedLine, refusedLine, cutLine, lastLine, resultLine}
 
 -- the text of a label, which is a part of the script
@@ -33,9 +32,10 @@ pub record Counts : Type 0 where
   pub accepted : ℕ
   pub refused : ℕ
 
-abbrev pub counted : Counts → Got Step → Counts
-counted c (got s end) = record { accepted = suc (c .accepted); refused = c .refused }
-counted c (refused r) = record { accepted = c .accepted; refused = suc (c .refused) }
+-- one step more
+abbrev pub tallied : Counts → Got Step → Counts
+tallied c (got s end) = record { accepted = suc (c .accepted); refused = c .refused }
+tallied c (refused r) = record { accepted = c .accepted; refused = suc (c .refused) }
 
 -- "Input that stops inside a record or its length prints `cut` before the last line"
 abbrev pub closing : Bool → Counts → List ℕ
@@ -47,7 +47,7 @@ unfoldable pub stepsFrom : Table → List ℕ → Bool → History → Counts �
 stepsFrom t script cut h c [] = closing cut c
 stepsFrom t script cut h c (bytes ∷ later) =
     let step = offered t h bytes in
-    stepLines t script h step ++ stepsFrom t script cut (grown h step) (counted c step) later
+    stepLines t script h step ++ stepsFrom t script cut (grown h step) (tallied c step) later
 
 -- "a refused script prints `script refused` and its number and nothing else"
 abbrev pub scriptLines : List ℕ → Bool → List (List ℕ) → Got Table → List ℕ

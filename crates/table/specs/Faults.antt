@@ -1,8 +1,8 @@
 -- Faults of a table: refusals 4, 7, 8 and 13 in the order of the writer's check.
-use mathlib.Core.Bool.{Bool, false, cond, _&&_}
-use mathlib.Core.Path.{_≡_, refl}
+use mathlib.Core.Bool.{false, _&&_}
+use mathlib.Core.Path.{_≡_}
 use mathlib.Core.List.{List, [], _∷_}
-use Prim.Native.Nat.{ℕ, zero, suc}
+use Prim.Native.Nat.{ℕ}
 use lib.Dec.{leb, ltb}
 use Rattle.values.specs.declared.Number.{Number}
 use Rattle.values.specs.Numbers.{inRange}

@@ -1,21 +1,26 @@
 -- A table in memory: its slots, which of them are unused, and the empty table.
 use mathlib.Core.Bool.{Bool, true, false, cond, not, _||_, _&&_}
 use mathlib.Core.List.{List, [], _∷_}
+use mathlib.Core.Path.{_≡_}
 use Prim.Native.Nat.{ℕ, zero, suc, _+_}
 use lib.Dec.{ltb}
 use lib.IntN.{pos}
-use lib.ListN.{getD, replicate}
+use lib.ListN.{length, getD, replicate}
 use Rattle.values.specs.declared.Number.{Number}
 use Rattle.values.specs.Numbers.{eqZ}
 use Rattle.table.specs.declared.Sort.{Sort}
 use Rattle.table.specs.declared.Entry.{Entry}
-use Rattle.table.specs.declared.EntrySlot.{EntrySlot}
-use Rattle.table.specs.declared.VariableSlot.{VariableSlot}
 use Rattle.table.specs.declared.Table.{Table}
 use Rattle.table.specs.Limits.{limits}
 use Rattle.table.specs.Kinds.{Operand, entry, imported, variable, constant, operandsOf, labelled}
 
--- entry k of a table
+-- a table's slots: "arrays of 128, 48 and 32"; every value of the type `Table` has them
+pub record Shaped (t : Table) : Type 0 where
+  pub entries : length (t .entries) ≡ limits .slots
+  pub events : length (t .events) ≡ limits .imports
+  pub variables : length (t .variables) ≡ limits .variables
+
+-- entry k of a table; past the slots, which nothing asks for, it is the first kind
 unfoldable pub entryAt : Table → ℕ → Entry
 entryAt t k = getD (t .entries) k (record { entry = Entry.ImportedCondition 0 }) .entry
 

@@ -1,5 +1,5 @@
 -- "The team proves that two replies allowed by the statement are equal": each public function's own contract gives its reply.
-use Rattle.values.specs.Replies.{Determined, by-value}
+use Rattle.replies.specs.Replies.{Determined, by-value}
 use Rattle.values.proofs.Truth.not.Reads as not
 use Rattle.values.proofs.Truth.or.Reads as or
 use Rattle.values.proofs.Truth.and.Reads as and

@@ -3,4 +3,3 @@ pub mod Truths
 pub mod Numbers
 pub mod Outcomes
 pub mod Adding
-pub mod Replies

@@ -1,6 +1,6 @@
 -- Numbers: undefined, or whole and within 48 bits; sum, difference, less and equal.
 use mathlib.Core.Bool.{Bool, true, false, cond}
-use Prim.Native.Nat.{ℕ, _^_}
+use Prim.Native.Nat.{_^_}
 use lib.Dec.{ltb, eqb}
 use lib.IntN.{ℤ, pos, negsuc, _+ℤ_, _-ℤ_}
 use lib.Signed.{mag, ltZ}
@@ -17,10 +17,6 @@ inRange z = ltb (mag z) (2 ^ 47)
 abbrev pub fitsN : Number → Bool
 fitsN Undefined = true
 fitsN (Whole z) = inRange z
-
--- "Times are milliseconds, 0 to 2^47−1."
-abbrev pub isTime : ℕ → Bool
-isTime t = ltb t (2 ^ 47)
 
 -- "A sum or difference outside the number range is undefined."
 abbrev pub ranged : ℤ → Number

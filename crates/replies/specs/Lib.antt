@@ -1,0 +1,2 @@
+-- "two replies allowed by the statement are equal"
+pub mod Replies
