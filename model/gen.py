@@ -110,6 +110,65 @@ def valid(r, want=None, most=14, steps_most=6):
     return t, s, hs, join(s, [step_bytes(a, b, t.imports) for a, b in hs])
 
 
+def rich(r):
+    """Update-rich: several updates of few variables, reads before, between and after, all seen in lines."""
+    t = R.Table()
+    t.imports[:3] = [True, True, False]
+    t.q = 3
+    t.v = r.choice([1, 1, 2])
+    small = [0, 1, 2]
+    t.variables[:t.v] = [r.choice([None, 0, 1]) for _ in range(t.v)]
+    entries = [(9, 0), (9, 1), (20, r.choice([0, 1])), (15, r.choice(small))]
+    events, numbers, reads = [0, 1], [2, 3], []
+    for _ in range(r.randint(6, 9)):
+        k = len(entries)
+        what = r.choice("ruuurrsdcewto")
+        if what == "u":
+            entries.append((22, r.choice(events), r.randrange(t.v), r.choice(numbers + reads)))
+        elif what == "r":
+            entries.append((16, r.randrange(t.v)))
+            numbers.append(k)
+            reads.append(k)
+        elif what in "sd":
+            entries.append((17 if what == "s" else 18, r.choice(reads or numbers), r.choice(numbers)))
+            numbers.append(k)
+        elif what == "t":
+            entries.append((21, r.choice(events)))
+            numbers.append(k)
+        elif what == "c":
+            entries.append((8 if r.random() < .6 else 7, r.choice(reads or numbers), r.choice(numbers)))
+            if r.random() < .5:
+                entries.append((1, k))
+                k += 1
+            entries.append((24, k))
+        elif what == "e":
+            entries.append((7, r.choice(numbers), r.choice(reads or numbers)))
+            entries.append((r.choice([10, 11]), k))
+            events.append(k + 1)
+        elif what == "w":
+            entries.append((0, 2))
+            entries.append((14, r.choice(events), k))
+            events.append(k + 1)
+            entries.append((23, k + 1))
+        elif what == "o":
+            entries.append((2, r.choice(events), r.choice(events)))
+            entries.append((r.choice([10, 11]), k))
+            events.append(k + 1)
+    for x in (reads or numbers)[-2:]:
+        entries.append((8, x, r.choice(numbers)))
+        entries.append((24, len(entries) - 1))
+        entries.append((1, len(entries) - 2))
+        entries.append((24, len(entries) - 1))
+    t.n = len(entries)
+    t.entries[:t.n] = entries
+    hs, time = [], r.choice([0, 1])
+    for _ in range(r.randint(3, 6)):
+        hs.append((time, [(i, r.choice([None, 0, 1, 2, R.HIGH]) if i < 2 else r.choice([R.T, R.F, R.U])) for i in range(3) if r.random() < .5]))
+        time += r.choice([1, 2])
+    s = R.script_bytes(t, block(r, t))
+    return t, s, hs, join(s, [step_bytes(a, b, t.imports) for a, b in hs])
+
+
 def flip(r, b):
     if not b:
         return b
