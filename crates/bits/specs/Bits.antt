@@ -58,3 +58,8 @@ bytesOf bits = listTo ((length bits + 7) / 8) (λ i. numberFrom (λ j. getD bits
 -- how many zero bits bring a position to a whole byte
 abbrev pub paddingAt : ℕ → ℕ
 paddingAt at = (8 - at % 8) % 8
+
+-- names all that fields are computed with: an example says `unfolding theBits`
+unfoldable pub theBits : Unit {0}
+unfolding numberFrom bitAt bitsAt fieldAt bitsOf bitsOfAll listTo bytesOf
+theBits = tt

@@ -2,3 +2,4 @@
 pub mod Bits
 pub mod Twos
 pub mod Reading
+pub mod Packed

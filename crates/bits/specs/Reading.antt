@@ -11,7 +11,6 @@ use Rattle.bits.specs.declared.Field.{Field}
 use Rattle.bits.specs.Bits.{fieldAt, paddingAt}
 
 infixl 20 _>>=_
-
 -- what reading gives: a value and the bit at which the next field begins, or the refusal
 pub data Got (A : Type 0) : Type 0 where
   got : A → ℕ → Got A

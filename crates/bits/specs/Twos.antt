@@ -12,3 +12,8 @@ signed v = cond (ltb v (2 ^ 47)) (pos v) (negsuc (2 ^ 48 - suc v))
 unfoldable pub unsigned : ℤ → ℕ
 unsigned (pos n) = n
 unsigned (negsuc n) = 2 ^ 48 - suc n
+
+-- names all that two's complement is computed with
+unfoldable pub theTwos : Unit {0}
+unfolding signed unsigned
+theTwos = tt

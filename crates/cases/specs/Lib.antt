@@ -1,2 +1,3 @@
--- Test only: the document's examples, and the readings that mislead.
-pub mod Recording
+-- Test only: the gate rule of document 003, and the four readings that mislead.
+pub mod Gate
+pub mod Misleading

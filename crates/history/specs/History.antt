@@ -174,3 +174,8 @@ resultAt = resultBy judge
 -- "a step hands back 128 of them; slots past n hold 'no result'"
 unfoldable pub resultsOf : Table → History → List Outcome
 resultsOf t h = let row = latestRow (momentsBy judge t h) in row ++ replicate (limits .slots - length row) Outcome.Nothing
+
+-- names all that the logic is computed with: an example says `unfolding theLogic`
+unfoldable pub theLogic : Unit {0}
+unfolding entryAt initialOf updateOf toldBy meaning lastReport someBelow noneBelow pairHolds latestTime givenBefore heldBefore heldAt stepsOf givensAt judge rowTo momentsBy resultBy resultAt resultsOf
+theLogic = tt

@@ -2,3 +2,5 @@
 pub mod Meaning
 pub mod History
 pub mod Offered
+pub mod Pairs
+pub mod Marked

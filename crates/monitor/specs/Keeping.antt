@@ -65,3 +65,8 @@ startReply (Answer.Refused r) t = record { answer = Answer.Refused r; monitor = 
 -- what a start answers
 unfoldable pub startOn : Table → Started
 startOn t = startReply (unsoundTable t) t
+
+-- names all that 29 and a start are computed with
+unfoldable pub theKeeping : Unit {0}
+unfolding keptFault unsound startOn
+theKeeping = tt

@@ -1,3 +1,4 @@
 -- The monitor: what it keeps, when it is at fault, and what a start and a step answer.
 pub mod Keeping
 pub mod Stepping
+pub mod Marked

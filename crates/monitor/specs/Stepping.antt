@@ -164,3 +164,8 @@ soundStep (Answer.Refused r) m bytes = refusedStep r m
 -- what a step answers
 unfoldable pub stepOf : Monitor → List ℕ → Stepped
 stepOf m bytes = soundStep (unsound m) m bytes
+
+-- names all that a step is computed with: an example says `unfolding theStepping`
+unfoldable pub theStepping : Unit {0}
+unfolding recalled remember walked walkTo monitorAfter advanced stepOf
+theStepping = tt

@@ -3,3 +3,4 @@ pub mod Operands
 pub mod Labels
 pub mod Reader
 pub mod Writer
+pub mod Orders

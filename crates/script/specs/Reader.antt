@@ -20,7 +20,7 @@ use Rattle.script.specs.declared.Script.{Script}
 use Rattle.script.specs.declared.Span.{Span}
 use Rattle.script.specs.declared.Label.{Label}
 use Rattle.script.specs.Operands.{widthOf, constantField}
-use Rattle.script.specs.Labels.{label, labels}
+use Rattle.script.specs.Labels.{printable, text, label, labels}
 
 -- the empty table with its counts set
 abbrev pub counted : ℕ → ℕ → ℕ → Table
@@ -186,3 +186,8 @@ blockIn s (refused r) = []
 
 unfoldable pub blockOf : List ℕ → List ℕ
 blockOf s = blockIn s (scriptOf s)
+
+-- names all that a script is read with: an example says `unfolding theReader`
+unfoldable pub theReader : Unit {0}
+unfolding printable text label labels header imports variables operand kinds entry entries packedTable wholeScript scriptOf readScript labelSpan labelOf blockOf
+theReader = tt

@@ -93,3 +93,8 @@ writeScript t block destination = writtenReply (writerFault t block (length dest
 -- what the destination then holds
 unfoldable pub writeBytes : Table → List ℕ → List ℕ → List ℕ
 writeBytes t block destination = writtenBytes (writerFault t block (length destination)) (scriptBytes t block) destination
+
+-- names all that a script is written with: an example says `unfolding theWriter`
+unfoldable pub theWriter : Unit {0}
+unfolding joined headerParts importParts entryParts tableParts scriptBytes blockFault writerFault writeScript writeBytes
+theWriter = tt

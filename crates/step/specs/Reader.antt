@@ -1,14 +1,18 @@
 -- A step read from front to back: a function of the imports' sorts, of the last time and of the bytes alone.
 use mathlib.Core.Bool.{Bool, true, false, cond}
 use mathlib.Core.List.{List, [], _∷_, _++_}
+use mathlib.Core.Path.{_≡_, refl}
 use Prim.Native.Nat.{ℕ, zero, suc}
 use lib.Dec.{leb, ltb, eqb}
 use Rattle.values.specs.declared.Truth.{Truth}
 use Rattle.values.specs.declared.Number.{Number}
 use Rattle.refusals.specs.declared.Refusal.{Refusal}
+use Rattle.refusals.specs.declared.Answer.{Answer}
 use Rattle.refusals.specs.Numbering.{unless, andThen}
+use Rattle.bits.specs.declared.Field.{Field}
+use Rattle.bits.specs.Bits.{fieldAt}
 use Rattle.bits.specs.Twos.{signed}
-use Rattle.bits.specs.Reading.{Got, Reading, give, _>>=_, field, whatever, padding, ended}
+use Rattle.bits.specs.Reading.{Got, refused, Reading, give, _>>=_, field, whatever, padding, ended}
 use Rattle.table.specs.declared.Table.{Table}
 use Rattle.table.specs.Tables.{isEvent}
 use Rattle.step.specs.Steps.{Told, condition, event, Report, Step}
@@ -35,11 +39,16 @@ abbrev pub reportFor : Bool → Reading Told
 reportFor true = eventReport
 reportFor false = conditionReport
 
--- "the reports, import numbers strictly rising": `least` is the least import number that may come next; "23 before 24"
+-- "23: import ≥ q", "24: import not above the one before it in this step"; "23 before 24"
+-- `least` is the least import number that may come next
+unfoldable pub importFault : Table → ℕ → ℕ → Answer
+importFault t least i = andThen (unless (ltb i (t .q)) Refusal.StepImport) (unless (leb least i) Refusal.ImportOrder)
+
+-- "the reports, import numbers strictly rising"
 unfoldable pub reports : Table → ℕ → ℕ → List Report → Reading (List Report)
 reports t zero least sofar = give sofar
 reports t (suc left) least sofar = do
-  i ← field Refusal.StepCut 6 (λ i. andThen (unless (ltb i (t .q)) Refusal.StepImport) (unless (leb least i) Refusal.ImportOrder))
+  i ← field Refusal.StepCut 6 (importFault t least)
   told ← reportFor (isEvent t i)
   reports t left (suc i) (sofar ++ (record { imported = i; told = told } ∷ []))
 
@@ -53,3 +62,19 @@ readStep t earliest = do
   zeros ← padding Refusal.StepCut Refusal.StepPadding
   end ← ended Refusal.StepLeftOver
   give (record { time = time; reports = told })
+
+-- names all that a step is read with: an example says `unfolding theStep`
+unfoldable pub theStep : Unit {0}
+unfolding conditionReport eventReport importFault reports readStep
+theStep = tt
+
+-- "23 before 24", whatever came before
+pub import-before-order : (t : Table) (least i : ℕ) → ltb i (t .q) ≡ false → importFault t least i ≡ Answer.Refused Refusal.StepImport
+unfolding importFault
+import-before-order t least i none = rw none
+
+-- 22 is judged as soon as the 47 bits of time are there, whatever follows
+pub time-first : (t : Table) (earliest time : ℕ) (s : List ℕ) → fieldAt s 0 47 ≡ Field.There time → leb earliest time ≡ false
+    → readStep t earliest s 0 ≡ refused Refusal.Time
+unfolding readStep
+time-first t earliest time s there early = rw (there, early)

@@ -86,3 +86,8 @@ wordLine time k label (c ∷ cs) = line (decimal time ∷ (c ∷ cs) ∷ decimal
 
 unfoldable pub resultLine : ℕ → ℕ → List ℕ → Outcome → List ℕ
 resultLine time k label o = wordLine time k label (wordFor o)
+
+-- names all that lines are computed with: an example says `unfolding theLines`
+unfoldable pub theLines : Unit {0}
+unfolding digitsTo decimal line scriptLine scriptRefusedLine refusedLine cutLine lastLine resultLine
+theLines = tt

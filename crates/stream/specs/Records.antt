@@ -33,9 +33,9 @@ unfoldable pub recordsTo : ℕ → List ℕ → Recorded
 recordsTo zero input = record { records = []; cut = false }
 recordsTo (suc most) input =
     elim (nextRecord input) [
-      end ↦ record { records = []; cut = false }
-    | stops ↦ record { records = []; cut = true }
-    | whole bytes rest ↦ behind bytes (recordsTo most rest)
+      | end ↦ record { records = []; cut = false }
+      | stops ↦ record { records = []; cut = true }
+      | whole bytes rest ↦ behind bytes (recordsTo most rest)
     ]
 
 unfoldable pub recordsOf : List ℕ → Recorded

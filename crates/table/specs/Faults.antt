@@ -1,5 +1,6 @@
 -- Faults of a table: refusals 4, 7, 8 and 13 in the order of the writer's check.
-use mathlib.Core.Bool.{Bool, cond, _&&_}
+use mathlib.Core.Bool.{Bool, false, cond, _&&_}
+use mathlib.Core.Path.{_≡_, refl}
 use mathlib.Core.List.{List, [], _∷_}
 use Prim.Native.Nat.{ℕ, zero, suc}
 use lib.Dec.{leb, ltb}
@@ -8,10 +9,11 @@ use Rattle.values.specs.Numbers.{inRange}
 use Rattle.refusals.specs.declared.Refusal.{Refusal}
 use Rattle.refusals.specs.declared.Answer.{Answer}
 use Rattle.refusals.specs.Numbering.{unless, andThen, firstFault}
+use Rattle.table.specs.declared.Sort.{Sort}
 use Rattle.table.specs.declared.Table.{Table}
 use Rattle.table.specs.Limits.{limits}
-use Rattle.table.specs.Kinds.{Operand, entry, imported, variable, constant, operandsOf, sortOf, sameSort}
-use Rattle.table.specs.Tables.{entryAt, importSort, initialOf, unusedSlots}
+use Rattle.table.specs.Kinds.{Operand, entry, imported, variable, constant, kindOf, operandsOf, sortOf, sameSort, labelled, updateOf}
+use Rattle.table.specs.Tables.{entryAt, isEvent, importSort, initialOf, everySlot, unusedSlots, labelsBefore}
 
 -- "7: operand not an earlier entry, import ≥ q, or variable ≥ v"; "8: operand or import of the wrong sort"; "13: number outside 48 bits"
 -- "operand by operand, 7 before 8"
@@ -52,3 +54,23 @@ asUnsound (Answer.Refused r) = Answer.Refused Refusal.Unsound
 -- "29: ... table that the writer would refuse with 4, 7, 8 or 13"
 unfoldable pub unsoundTable : Table → Answer
 unsoundTable t = asUnsound (tableFault t)
+
+-- names all that faults are computed with: an example says `unfolding theFaults`
+unfoldable pub theFaults : Unit {0}
+unfolding kindOf operandsOf sortOf labelled updateOf entryAt initialOf isEvent importSort everySlot unusedSlots labelsBefore operandFault operandsFault limitsFault numberFault firstFault tableFault unsoundTable
+theFaults = tt
+
+-- "operand by operand, 7 before 8": what is no earlier entry is 7, whatever its sort
+pub seven-before-eight : (t : Table) (k : ℕ) (s : Sort) (a : ℕ) → ltb a k ≡ false → operandFault t k (entry s a) ≡ Answer.Refused Refusal.Operand
+unfolding operandFault
+seven-before-eight t k s a late = rw late
+
+-- and so is an import ≥ q
+pub seven-before-eight-import : (t : Table) (k : ℕ) (s : Sort) (i : ℕ) → ltb i (t .q) ≡ false → operandFault t k (imported s i) ≡ Answer.Refused Refusal.Operand
+unfolding operandFault
+seven-before-eight-import t k s i none = rw none
+
+-- 4 is judged wholly first
+pub four-first : (t : Table) (r : Refusal) → limitsFault t ≡ Answer.Refused r → tableFault t ≡ Answer.Refused r
+unfolding tableFault
+four-first t r bad = rw bad

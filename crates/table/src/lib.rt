@@ -57,7 +57,9 @@ pub struct Table {
 
 impl Table {
     pub const ENTRIES: usize = 128;
+
     pub const IMPORTS: usize = 48;
+
     pub const VARIABLES: usize = 32;
 
     pub fn empty() -> Table
@@ -68,8 +70,12 @@ impl Table {
             q: 0,
             v: 0,
             events: [false; Table::IMPORTS],
-            variables: [VariableSlot { number: Number::Undefined }; Table::VARIABLES],
-            entries: [EntrySlot { entry: Entry::Constant(0) }; Table::ENTRIES],
+            variables: [VariableSlot {
+                number: Number::Undefined,
+            }; Table::VARIABLES],
+            entries: [EntrySlot {
+                entry: Entry::Constant(0),
+            }; Table::ENTRIES],
         }
     }
 }

@@ -2,3 +2,5 @@
 pub mod Truths
 pub mod Numbers
 pub mod Outcomes
+pub mod Adding
+pub mod Replies

@@ -13,6 +13,11 @@ use Rattle.values.specs.Truths.{truthOf}
 abbrev pub inRange : ℤ → Bool
 inRange z = ltb (mag z) (2 ^ 47)
 
+-- "A number is undefined or a whole number from −2^47 to 2^47−1."
+abbrev pub fitsN : Number → Bool
+fitsN Undefined = true
+fitsN (Whole z) = inRange z
+
 -- "Times are milliseconds, 0 to 2^47−1."
 abbrev pub isTime : ℕ → Bool
 isTime t = ltb t (2 ^ 47)

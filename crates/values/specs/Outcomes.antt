@@ -1,6 +1,6 @@
 -- Results: what document 01 says of each, and what an operand takes from one.
 use mathlib.Core.Bool.{Bool, true, false}
-use mathlib.Core.Path.{_≡_, refl}
+use mathlib.Core.Path.{_≡_, refl, sym, ap, _∙_}
 use lib.IntN.{ℤ}
 use Rattle.values.specs.declared.Truth.{Truth}
 use Rattle.values.specs.declared.Number.{Number}
@@ -97,3 +97,25 @@ outcomeOf not-raised = Raised false
 outcomeOf not-violated = Property Truth.True
 outcomeOf violated = Property Truth.False
 outcomeOf not-known = Property Truth.Undefined
+
+said-back : (o : Outcome) → outcomeOf (said o) ≡ o
+unfolding said outcomeOf
+said-back Nothing = refl
+said-back (Condition Truth.Undefined) = refl
+said-back (Condition Truth.False) = refl
+said-back (Condition Truth.True) = refl
+said-back (Event true) = refl
+said-back (Event false) = refl
+said-back (Numeric Number.Undefined) = refl
+said-back (Numeric (Number.Whole z)) = refl
+said-back (Done true) = refl
+said-back (Done false) = refl
+said-back (Raised true) = refl
+said-back (Raised false) = refl
+said-back (Property Truth.Undefined) = refl
+said-back (Property Truth.False) = refl
+said-back (Property Truth.True) = refl
+
+-- the words determine the result
+pub said-same : (a b : Outcome) → said a ≡ said b → a ≡ b
+said-same a b e = sym (said-back a) ∙ ap outcomeOf e ∙ said-back b

@@ -1,4 +1,6 @@
 // The values of document 01: conditions, numbers and results.
+mod numbers;
+mod truths;
 
 // "A condition is true, false or undefined."
 pub enum Truth {

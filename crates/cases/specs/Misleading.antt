@@ -1,0 +1,138 @@
+-- "Four readings that mislead": each a wrong definition beside the right one, and the case at which it differs.
+use mathlib.Core.Bool.{Bool, true, false, _&&_, _||_}
+use mathlib.Core.List.{List, [], _∷_, map, reverse}
+use mathlib.Core.Path.{_≡_, refl}
+use Prim.Native.Nat.{ℕ, zero, suc, _<_}
+use native.Mathlib.Omega.{arith}
+use lib.Dec.{T, ltb, eqb, lit<, leb·suc-zero, eqb·suc-zero}
+use Rattle.values.specs.declared.Truth.{Truth}
+use Rattle.values.specs.declared.Outcome.{Outcome}
+use Rattle.values.specs.Truths.{isFalse}
+use Rattle.values.specs.Outcomes.{Said, true-condition, undefined-condition, occurs, does-not-occur, violated, not-violated, said}
+use Rattle.table.specs.declared.Table.{Table}
+use Rattle.table.specs.declared.Entry.the-variants.{ImportedCondition, Pair, Start, End}
+use Rattle.table.specs.Kinds.{operandsOf, updateOf}
+use Rattle.table.specs.Tables.{entryAt}
+use Rattle.step.specs.Steps.{Step}
+use Rattle.history.specs.Meaning.{Givens, meaning}
+use Rattle.history.specs.History.{Moment, rowAt, Judge, judge, conditionBefore, heldBefore, givensAt, resultBy, theLogic}
+use Rattle.history.specs.Marked.{Case, answerBy, rules, p3, p8, p9end, trueThenUndefined, readThenUpdate}
+use Rattle.reach.specs.Reaching.{Entries, isOperand, isRead, readsUpdate, leadsTo, Closed, Least}
+use Rattle.cases.specs.Gate.{secondClosing}
+
+-- a judge says something else than document 01 at a case
+abbrev Differs : Judge → Case → Type 0
+Differs by c = answerBy by c ≡ c .says → ⊥
+
+-- 1. "Taking undefined for false."
+abbrev flat : Truth → Truth
+flat Truth.Undefined = Truth.False
+flat Truth.False = Truth.False
+flat Truth.True = Truth.True
+
+abbrev flatResult : Outcome → Outcome
+flatResult Outcome.Nothing = Outcome.Nothing
+flatResult (Outcome.Condition c) = Outcome.Condition (flat c)
+flatResult (Outcome.Event b) = Outcome.Event b
+flatResult (Outcome.Numeric x) = Outcome.Numeric x
+flatResult (Outcome.Done b) = Outcome.Done b
+flatResult (Outcome.Raised b) = Outcome.Raised b
+flatResult (Outcome.Property c) = Outcome.Property (flat c)
+
+-- what is given, with every condition false before the first step
+abbrev flatGivens : List Moment → Givens → Givens
+flatGivens past g =
+    record {
+      told = g .told;
+      clock = g .clock;
+      reported = g .reported;
+      held = g .held;
+      paired = g .paired;
+      wasTrue = g .wasTrue;
+      wasFalse = λ c. isFalse (flat (conditionBefore past c));
+      latest = g .latest;
+    }
+
+pub undefinedForFalse : Judge
+undefinedForFalse t past s row k = flatResult (meaning (entryAt t k) (rowAt row) (flatGivens past (givensAt t past s row k)))
+
+-- "It makes P3 true, gives P9 an end and takes away the end in P8."
+undefined-for-false : map (answerBy undefinedForFalse) (p3 ∷ p9end ∷ p8 ∷ []) ≡ true-condition ∷ occurs ∷ does-not-occur ∷ []
+unfolding answerBy said undefinedForFalse theLogic
+undefined-for-false = refl
+
+pub reading-1-differs : Differs undefinedForFalse p3 × (Differs undefinedForFalse p8 × Differs undefinedForFalse p9end)
+reading-1-differs = (
+  (λ e. let z : _≡_ {A = ℕ} 0 1 = cc undefined-for-false in omega arith),
+  (
+    (λ e. let z : _≡_ {A = ℕ} 0 1 = cc undefined-for-false in omega arith),
+    λ e. let z : _≡_ {A = ℕ} 0 1 = cc undefined-for-false in omega arith,
+  ),
+)
+
+-- 2. "Trusting document 003's remark that a condition equals the pair of its own start and end."
+abbrev ownPair : Table
+ownPair = rules (false ∷ []) [] (ImportedCondition 0 ∷ Start 0 ∷ End 0 ∷ Pair 1 2 ∷ [])
+
+pub conditionSays : List Step → Said
+conditionSays steps = said (resultBy judge ownPair (reverse steps) 0)
+
+pub pairSays : List Step → Said
+pairSays steps = said (resultBy judge ownPair (reverse steps) 3)
+
+-- "With three values it fails at P9."
+at-p9 : (conditionSays trueThenUndefined ≡ undefined-condition) × (pairSays trueThenUndefined ≡ true-condition)
+unfolding conditionSays pairSays said theLogic
+at-p9 = (refl, refl)
+
+pub reading-2-differs : ((steps : List Step) → conditionSays steps ≡ pairSays steps) → ⊥
+reading-2-differs same = let z : _≡_ {A = ℕ} 0 1 = cc (at-p9 .0, at-p9 .1, same trueThenUndefined) in omega arith
+
+-- 3. "Evaluating all conditions before all updates": a read sees the updates of earlier steps alone
+abbrev lateGivens : Table → List Moment → Givens → Givens
+lateGivens t past g =
+    record {
+      told = g .told;
+      clock = g .clock;
+      reported = g .reported;
+      held = heldBefore t past;
+      paired = g .paired;
+      wasTrue = g .wasTrue;
+      wasFalse = g .wasFalse;
+      latest = g .latest;
+    }
+
+pub updatesLast : Judge
+updatesLast t past s row k = meaning (entryAt t k) (rowAt row) (lateGivens t past (givensAt t past s row k))
+
+-- "Document 003's gate rule, whose update would then come too late, is right only if the update stands first and the rule sees it."
+gate-rule : (answerBy judge secondClosing ≡ not-violated) × (answerBy updatesLast secondClosing ≡ violated)
+unfolding answerBy said updatesLast theLogic
+gate-rule = (refl, refl)
+
+pub reading-3-differs : Differs updatesLast secondClosing
+reading-3-differs e = let z : _≡_ {A = ℕ} 0 1 = cc (gate-rule .1) in omega arith
+
+-- 4. "Following only the updates that stand before a read when working out reach."
+pub earlierOnly : Table → ℕ → ℕ → Bool
+earlierOnly t j o = isOperand (operandsOf (entryAt t j)) o || (ltb o j && readsUpdate (operandsOf (entryAt t j)) (updateOf (entryAt t o)))
+
+-- "A later update is seen one step on": P12's update, entry 3, is in the reach of P12's read, entry 0
+right-reach : (S : Entries) → Least (leadsTo readThenUpdate) 4 0 S → T (S 3)
+unfolding leadsTo isOperand isRead entryAt operandsOf updateOf
+right-reach S r = r .closed 0 3 (lit< tt) (lit< tt) (r .holds) tt
+
+-- the read by itself
+abbrev readAlone : Entries
+readAlone j = eqb j 0
+
+read-alone-closed : Closed (earlierOnly readThenUpdate) 4 readAlone
+unfolding earlierOnly isOperand entryAt operandsOf updateOf
+read-alone-closed zero o hj ho inside leads = absurd (rw (leb·suc-zero o) at leads)
+read-alone-closed (suc j) o hj ho inside leads = absurd (rw (eqb·suc-zero j) at inside)
+
+wrong-reach : (S : Entries) → Least (earlierOnly readThenUpdate) 4 0 S → T (S 3) → ⊥
+wrong-reach S r marked = r .least readAlone tt read-alone-closed 3 (lit< tt) marked
+
+pub reading-4-differs : (S : Entries) → Least (leadsTo readThenUpdate) 4 0 S → Least (earlierOnly readThenUpdate) 4 0 S → ⊥
+reading-4-differs S right wrong = wrong-reach S wrong (right-reach S right)

@@ -1,0 +1,18 @@
+-- "The team proves that two replies allowed by the statement are equal": each public function's own contract gives its reply.
+use Rattle.values.specs.Replies.{Determined, by-value}
+use Rattle.values.proofs.Truth.not.Reads as not
+use Rattle.values.proofs.Truth.or.Reads as or
+use Rattle.values.proofs.Truth.and.Reads as and
+use Rattle.values.proofs.Truth.implies.Reads as implies
+use Rattle.values.proofs.Truth.defined.Reads as defined
+use Rattle.values.proofs.Number.sum.Reads as sum
+use Rattle.values.proofs.Number.difference.Reads as difference
+use Rattle.values.proofs.Number.less.Reads as less
+use Rattle.values.proofs.Number.equal.Reads as equal
+use Rattle.values.proofs.Number.in_range.Reads as in-range
+
+pub conditions : Determined not.Post × Determined or.Post × Determined and.Post × Determined implies.Post × Determined defined.Post
+conditions = (by-value, by-value, by-value, by-value, by-value)
+
+pub numbers : Determined sum.Post × Determined difference.Post × Determined less.Post × Determined equal.Post × Determined in-range.Post
+numbers = (by-value, by-value, by-value, by-value, by-value)

@@ -1,0 +1,55 @@
+// The operators on conditions.
+use crate::Truth;
+ghost use mathlib.Core.Path.{_≡_};
+ghost use Rattle.values.specs.Truths.{notT, orT, andT, impliesT, definedT};
+
+impl Truth {
+    // "Not, or and defined are those of table 4.2 in source document 000"
+    pub fn not(self) -> Truth
+        ensures { λ r. ⌜ r ≡ notT self ⌝ }
+    {
+        match self {
+            Truth::Undefined => Truth::Undefined,
+            Truth::False => Truth::True,
+            Truth::True => Truth::False,
+        }
+    }
+
+    pub fn or(self, other: Truth) -> Truth
+        ensures { λ r. ⌜ r ≡ orT self other ⌝ }
+    {
+        match self {
+            Truth::True => Truth::True,
+            Truth::False => other,
+            Truth::Undefined => match other {
+                Truth::True => Truth::True,
+                Truth::False => Truth::Undefined,
+                Truth::Undefined => Truth::Undefined,
+            },
+        }
+    }
+
+    pub fn defined(self) -> Truth
+        ensures { λ r. ⌜ r ≡ definedT self ⌝ }
+    {
+        match self {
+            Truth::Undefined => Truth::False,
+            Truth::False => Truth::True,
+            Truth::True => Truth::True,
+        }
+    }
+
+    // "a and b" is not (not a or not b)
+    pub fn and(self, other: Truth) -> Truth
+        ensures { λ r. ⌜ r ≡ andT self other ⌝ }
+    {
+        self.not().or(other.not()).not()
+    }
+
+    // "a implies b" is (not a) or b
+    pub fn implies(self, other: Truth) -> Truth
+        ensures { λ r. ⌜ r ≡ impliesT self other ⌝ }
+    {
+        self.not().or(other)
+    }
+}
