@@ -5,7 +5,8 @@ use Prim.Native.Nat.{ℕ}
 use lib.ListN.{getD, replicate}
 use Rattle.values.specs.declared.Outcome.{Outcome}
 use Rattle.values.specs.declared.Slot.{Slot}
-use Rattle.refusals.specs.Numbering.{answerNumber}
+use Rattle.refusals.specs.declared.Answer.{Answer}
+use Rattle.refusals.specs.Numbering.{numberOf}
 use Rattle.bits.specs.Bits.{listTo, theBits}
 use Rattle.bits.specs.Twos.{theTwos}
 use Rattle.bits.specs.Reading.{Got, got, refused}
@@ -24,6 +25,11 @@ use Rattle.reach.specs.Reaching.{isOperand, isRead, leadsTo, namesImport, reads
 use Rattle.stream.specs.Lines.{theLines}
 use Rattle.stream.specs.Records.{nextRecord, recordsTo, recordsOf}
 use Rattle.stream.specs.Replay.{rowLines, stepsFrom, replayed}
+
+-- the number of an answer, 0 where nothing is refused
+abbrev pub answerNumber : Answer → ℕ
+answerNumber Answer.Accepted = 0
+answerNumber (Answer.Refused r) = numberOf r
 
 -- the writer's number, size and destination
 abbrev pub wrote : Table → List ℕ → List ℕ → List ℕ
