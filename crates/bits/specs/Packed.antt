@@ -36,6 +36,7 @@ pub ends-signed : map signed (0 ∷ (2 ^ 47 - 1) ∷ (2 ^ 47) ∷ (2 ^ 48 - 1) �
 unfolding theTwos
 ends-signed = refl
 
+-- and back
 pub ends-unsigned : map unsigned (pos 0 ∷ pos (2 ^ 47 - 1) ∷ negsuc (2 ^ 47 - 1) ∷ negsuc 0 ∷ []) ≡ 0 ∷ (2 ^ 47 - 1) ∷ (2 ^ 47) ∷ (2 ^ 48 - 1) ∷ []
 unfolding theTwos
 ends-unsigned = refl

@@ -2,9 +2,9 @@
 use mathlib.Core.Bool.{Bool, false, _&&_, _||_}
 use mathlib.Core.List.{List, [], _∷_, map, reverse}
 use mathlib.Core.Path.{_≡_, refl}
-use Prim.Native.Nat.{ℕ, zero, suc}
+use Prim.Native.Nat.{ℕ, zero, suc, _<_}
 use native.Mathlib.Omega.{arith}
-use lib.Dec.{T, ltb, eqb, lit<, leb·suc-zero, eqb·suc-zero}
+use lib.Dec.{T, ltb, eqb, lit<, lt→ltb, leb·suc-zero, eqb·suc-zero}
 use Rattle.values.specs.declared.Truth.{Truth}
 use Rattle.values.specs.declared.Outcome.{Outcome}
 use Rattle.values.specs.Truths.{isFalse}
@@ -53,6 +53,7 @@ flatGivens past g =
       latest = g .latest;
     }
 
+-- the judge of this reading
 pub undefinedForFalse : Judge
 undefinedForFalse t past s row k = flatResult (meaning (entryAt t k) (rowAt row) (flatGivens past (givensAt t past s row k)))
 
@@ -61,6 +62,7 @@ undefined-for-false : map (answerBy undefinedForFalse) (p3 ∷ p9end ∷ p8 ∷ 
 unfolding answerBy said undefinedForFalse theLogic
 undefined-for-false = refl
 
+-- so it differs at P3, P8 and P9
 pub reading-1-differs : Differs undefinedForFalse p3 × (Differs undefinedForFalse p8 × Differs undefinedForFalse p9end)
 reading-1-differs = (
   (λ e. let z : _≡_ {A = ℕ} 0 1 = cc undefined-for-false in omega arith),
@@ -74,9 +76,11 @@ reading-1-differs = (
 abbrev ownPair : Table
 ownPair = rules (false ∷ []) [] (ImportedCondition 0 ∷ Start 0 ∷ End 0 ∷ Pair 1 2 ∷ [])
 
+-- what the condition itself says, at the last of these steps
 pub conditionSays : List Step → Said
 conditionSays steps = said (resultBy judge ownPair (reverse steps) 0)
 
+-- and what the pair of its own start and end says
 pub pairSays : List Step → Said
 pairSays steps = said (resultBy judge ownPair (reverse steps) 3)
 
@@ -85,6 +89,7 @@ at-p9 : (conditionSays trueThenUndefined ≡ undefined-condition) × (pairSays t
 unfolding conditionSays pairSays said theLogic
 at-p9 = (refl, refl)
 
+-- so the two are not the same
 pub reading-2-differs : ((steps : List Step) → conditionSays steps ≡ pairSays steps) → ⊥
 reading-2-differs same = let z : _≡_ {A = ℕ} 0 1 = cc (at-p9 .0, at-p9 .1, same trueThenUndefined) in omega arith
 
@@ -102,6 +107,7 @@ lateGivens t past g =
       latest = g .latest;
     }
 
+-- the judge of this reading
 pub updatesLast : Judge
 updatesLast t past s row k = meaning (entryAt t k) (rowAt row) (lateGivens t past (givensAt t past s row k))
 
@@ -110,17 +116,13 @@ gate-rule : (answerBy judge secondClosing ≡ not-violated) × (answerBy updates
 unfolding answerBy said updatesLast theLogic
 gate-rule = (refl, refl)
 
+-- so it differs at the second closing of the gate
 pub reading-3-differs : Differs updatesLast secondClosing
 reading-3-differs e = let z : _≡_ {A = ℕ} 0 1 = cc (gate-rule .1) in omega arith
 
 -- 4. "Following only the updates that stand before a read when working out reach."
 pub earlierOnly : Table → ℕ → ℕ → Bool
 earlierOnly t j o = isOperand (operandsOf (entryAt t j)) o || (ltb o j && readsUpdate (operandsOf (entryAt t j)) (updateOf (entryAt t o)))
-
--- "A later update is seen one step on": P12's update, entry 3, is in the reach of P12's read, entry 0
-right-reach : (S : Entries) → Least (leadsTo readThenUpdate) 4 0 S → T (S 3)
-unfolding leadsTo isOperand isRead entryAt operandsOf updateOf
-right-reach S r = r .closed 0 3 (lit< tt) (lit< tt) (r .holds) tt
 
 -- the read by itself
 abbrev readAlone : Entries
@@ -131,8 +133,33 @@ unfolding earlierOnly isOperand entryAt operandsOf updateOf
 read-alone-closed zero o hj ho inside leads = absurd (rw (leb·suc-zero o) at leads)
 read-alone-closed (suc j) o hj ho inside leads = absurd (rw (eqb·suc-zero j) at inside)
 
-wrong-reach : (S : Entries) → Least (earlierOnly readThenUpdate) 4 0 S → T (S 3) → ⊥
-wrong-reach S r marked = r .least readAlone tt read-alone-closed 3 (lit< tt) marked
+-- under this reading the reach of the read is the read alone, and leaves the update out
+pub wrong-least : Least (earlierOnly readThenUpdate) 4 0 readAlone
+wrong-least = record { holds = tt; closed = read-alone-closed; least = only }
+  where
+    only : (other : Entries) → T (other 0) → Closed (earlierOnly readThenUpdate) 4 other → (j : ℕ) → j < 4 → T (readAlone j) → T (other j)
+    only other holds closed zero h inside = holds
+    only other holds closed (suc j) h inside = absurd (rw (eqb·suc-zero j) at inside)
 
-pub reading-4-differs : (S : Entries) → Least (leadsTo readThenUpdate) 4 0 S → Least (earlierOnly readThenUpdate) 4 0 S → ⊥
-reading-4-differs S right wrong = wrong-reach S wrong (right-reach S right)
+-- all four entries of P12's table
+abbrev allFour : Entries
+allFour j = ltb j 4
+
+-- by document 01's rule the reach of the read is all four: the update, its event and its number
+pub right-least : Least (leadsTo readThenUpdate) 4 0 allFour
+unfolding leadsTo isOperand isRead entryAt operandsOf updateOf
+right-least = record { holds = tt; closed = λ j o hj ho inside leads. lt→ltb o 4 ho; least = every }
+  where
+    every : (other : Entries) → T (other 0) → Closed (leadsTo readThenUpdate) 4 other → (j : ℕ) → j < 4 → T (allFour j) → T (other j)
+    every other holds closed zero h inside = holds
+    every other holds closed (suc zero) h inside = closed 3 1 (lit< tt) (lit< tt) (closed 0 3 (lit< tt) (lit< tt) holds tt) tt
+    every other holds closed (suc (suc zero)) h inside = closed 3 2 (lit< tt) (lit< tt) (closed 0 3 (lit< tt) (lit< tt) holds tt) tt
+    every other holds closed (suc (suc (suc zero))) h inside = closed 0 3 (lit< tt) (lit< tt) holds tt
+    every other holds closed (suc (suc (suc (suc j)))) h inside = absurd (not-below h)
+      where
+        not-below : suc (suc (suc (suc j))) < 4 → ⊥
+        not-below below = omega arith
+
+-- "A later update is seen one step on": P12's update, entry 3, is in every reach of P12's read by the one rule, in none by the other
+pub reading-4-differs : (S R : Entries) → Least (leadsTo readThenUpdate) 4 0 S → Least (earlierOnly readThenUpdate) 4 0 R → T (S 3) × (T (R 3) → ⊥)
+reading-4-differs S R right wrong = (right-least .least S (right .holds) (right .closed) 3 (lit< tt) tt, λ marked. wrong .least readAlone tt read-alone-closed 3 (lit< tt) marked)

@@ -1,1 +1,1 @@
-// The document's examples, proved about the definitions. It has no code.
+// Test only: the readings that mislead, each refuted. It has no code: its statements stand in specs/.

@@ -1,5 +1,5 @@
 -- "The history is the list of accepted steps. Results are defined from it alone, ... entry by entry."
-use mathlib.Core.Bool.{Bool, true, false, cond, not, _&&_, _||_}
+use mathlib.Core.Bool.{Bool, false, cond, _&&_}
 use mathlib.Core.List.{List, [], _∷_, _++_}
 use mathlib.Core.Option.{Option, none, some, Option·getD}
 use Prim.Native.Nat.{ℕ, zero, suc, _-_}
@@ -15,6 +15,7 @@ use Rattle.table.specs.declared.Table.{Table}
 use Rattle.table.specs.Limits.{limits}
 use Rattle.table.specs.Kinds.{Change, updateOf}
 use Rattle.table.specs.Tables.{entryAt, initialOf}
+use Rattle.table.specs.Below.{someBelow, noneBelow}
 use Rattle.step.specs.Steps.{Told, nothing, condition, event, Step, toldBy}
 use Rattle.history.specs.Meaning.{Givens, meaning}
 
@@ -46,6 +47,7 @@ reportedAt time nothing earlier = earlier
 reportedAt time (condition c) earlier = reported c time
 reportedAt time (event x) earlier = earlier
 
+-- the last report of import i in a history
 unfoldable pub lastReport : History → ℕ → LastReport
 lastReport [] i = never
 lastReport (s ∷ h) i = reportedAt (s .time) (toldBy (s .reports) i) (lastReport h i)
@@ -60,16 +62,6 @@ abbrev pub occurred : List Moment → ℕ → ℕ → Bool
 occurred [] e ago = false
 occurred (m ∷ ms) e zero = eventIn (rowAt (m .row) e)
 occurred (m ∷ ms) e (suc ago) = occurred ms e ago
-
--- a test that holds at some number below n
-unfoldable pub someBelow : ℕ → (ℕ → Bool) → Bool
-someBelow zero p = false
-someBelow (suc n) p = someBelow n p || p n
-
--- a test that holds at no number below n
-unfoldable pub noneBelow : ℕ → (ℕ → Bool) → Bool
-noneBelow zero p = true
-noneBelow (suc n) p = noneBelow n p && not (p n)
 
 -- "The pair is true at step i if the first event occurred at some step j ≤ i and the second at no step from j to i, both ends counted; else false."
 -- The latest of the moments is step i, and step j stands so many steps before it.

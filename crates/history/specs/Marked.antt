@@ -40,9 +40,11 @@ rules events initial entries =
 abbrev pub at : ℕ → List Report → Step
 at time reports = record { time = time; reports = reports }
 
+-- a condition is reported as such
 abbrev pub is : ℕ → Truth → Report
 is i c = record { imported = i; told = condition c }
 
+-- an event is reported, with no value
 abbrev pub happens : ℕ → Report
 happens i = record { imported = i; told = event Number.Undefined }
 
@@ -111,6 +113,7 @@ trueThenUndefined = at 1 (is 0 Truth.True ∷ []) ∷ at 2 (is 0 Truth.Undefined
 abbrev p9start : Case
 p9start = record { table = startAndEnd; steps = trueThenUndefined; asked = 1; says = does-not-occur }
 
+-- and its end
 abbrev pub p9end : Case
 p9end = record { table = startAndEnd; steps = trueThenUndefined; asked = 2; says = does-not-occur }
 

@@ -42,9 +42,11 @@ ends now wasFalse = isFalse now && not wasFalse
 unfoldable pub meaning : Entry → (ℕ → Outcome) → Givens → Outcome
 -- "An imported condition has its last reported value, undefined before any."
 meaning (ImportedCondition i) at g = Outcome.Condition (g .reported i)
--- "Not, or and defined are those of table 4.2 ...; 'a and b' is ...; 'a implies b' is ..."
+-- "defined [is that] of table 4.2"
 meaning (Defined a) at g = Outcome.Condition (definedT (conditionIn (at a)))
+-- "The pair is true at step i if ...; else false. It is never undefined."
 meaning (Pair a b) at g = Outcome.Condition (truthOf (g .paired a b))
+-- "Not, or ... are those of table 4.2 ...; 'a and b' is not (not a or not b); 'a implies b' is (not a) or b."
 meaning (Not a) at g = Outcome.Condition (notT (conditionIn (at a)))
 meaning (Or a b) at g = Outcome.Condition (orT (conditionIn (at a)) (conditionIn (at b)))
 meaning (And a b) at g = Outcome.Condition (andT (conditionIn (at a)) (conditionIn (at b)))
@@ -54,14 +56,17 @@ meaning (Less a b) at g = Outcome.Condition (lessN (numberIn (at a)) (numberIn (
 meaning (Equal a b) at g = Outcome.Condition (equalN (numberIn (at a)) (numberIn (at b)))
 -- "An imported event occurs in the steps that report it."
 meaning (ImportedEvent i) at g = Outcome.Event (occursIn (g .told i))
+-- "Start occurs where ..." and "End occurs where ...", above
 meaning (Start a) at g = Outcome.Event (starts (conditionIn (at a)) (g .wasTrue a))
 meaning (End a) at g = Outcome.Event (ends (conditionIn (at a)) (g .wasFalse a))
 -- "Both, either and when are plain; when needs its condition to be true."
 meaning (Both a b) at g = Outcome.Event (eventIn (at a) && eventIn (at b))
 meaning (Either a b) at g = Outcome.Event (eventIn (at a) || eventIn (at b))
 meaning (When a b) at g = Outcome.Event (eventIn (at a) && isTrue (conditionIn (at b)))
+-- "15 constant; 16 variable": a variable read sees what `held` says
 meaning (Constant z) at g = Outcome.Numeric (Number.Whole z)
 meaning (Variable x) at g = Outcome.Numeric (g .held x)
+-- "17 sum N N; 18 difference N N (first less second)"
 meaning (Sum a b) at g = Outcome.Numeric (sumN (numberIn (at a)) (numberIn (at b)))
 meaning (Difference a b) at g = Outcome.Numeric (differenceN (numberIn (at a)) (numberIn (at b)))
 -- "Clock is the time of this step. Value is the value reported in this step, else undefined."
@@ -71,6 +76,6 @@ meaning (Value i) at g = Outcome.Numeric (valueIn (g .told i))
 meaning (Time a) at g = Outcome.Numeric (g .latest a)
 -- "An update has the result of its event: done or not done."
 meaning (Update a x b) at g = Outcome.Done (eventIn (at a))
--- "An alarm is raised where its event occurs. A property is violated where its condition is false."
+-- "An alarm is raised where its event occurs. A property is violated where its condition is false; undefined is reported as not known."
 meaning (Alarm a) at g = Outcome.Raised (eventIn (at a))
 meaning (Property a) at g = Outcome.Property (conditionIn (at a))

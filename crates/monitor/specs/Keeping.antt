@@ -11,7 +11,7 @@ use Rattle.refusals.specs.declared.Answer.{Answer}
 use Rattle.refusals.specs.Numbering.{unless, andThen, firstFault}
 use Rattle.table.specs.declared.Table.{Table}
 use Rattle.table.specs.Limits.{limits}
-use Rattle.table.specs.Tables.{emptyTable}
+use Rattle.table.specs.Tables.{emptyTable, numberAt}
 use Rattle.table.specs.Faults.{tableFault, numberFault, asUnsound, unsoundTable}
 use Rattle.monitor.specs.declared.Monitor.{Monitor}
 use Rattle.monitor.specs.declared.Started.{Started}
@@ -35,7 +35,7 @@ cellAt m k = getD (m .cells) k 0
 
 -- the number that a variable holds
 abbrev pub heldIn : Monitor → ℕ → Number
-heldIn m x = getD (m .held) x (record { number = Number.Undefined }) .number
+heldIn m x = numberAt (m .held) x
 
 -- the last reported value of an import
 abbrev pub reportedIn : Monitor → ℕ → Truth
@@ -68,7 +68,7 @@ abbrev pub startReply : Answer → Table → Started
 startReply Answer.Accepted t = record { answer = Answer.Accepted; monitor = fresh t }
 startReply (Answer.Refused r) t = record { answer = Answer.Refused r; monitor = fresh emptyTable }
 
--- what a start answers
+-- what a start answers: 29 or a monitor
 unfoldable pub startOn : Table → Started
 startOn t = startReply (unsoundTable t) t
 

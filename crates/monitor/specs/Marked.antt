@@ -17,9 +17,11 @@ pub afterSteps : Stepped → List Step → Stepped
 afterSteps r [] = r
 afterSteps r (s ∷ later) = afterSteps (advanced (r .monitor) s) later
 
+-- the steps of a case, from a fresh start
 pub runOf : Case → Stepped
 runOf c = afterSteps (record { answer = startOn (c .table) .answer; monitor = startOn (c .table) .monitor; results = noResults }) (c .steps)
 
+-- what the monitor's last results say of the entry asked for
 pub monitorSays : Case → Said
 monitorSays c = said (resultIn (runOf c .results) (c .asked))
 

@@ -6,7 +6,6 @@ use Prim.Native.Nat.{ℕ, zero, suc}
 use lib.Dec.{ltb}
 use lib.ListN.{getD, set, replicate}
 use Rattle.values.specs.declared.Truth.{Truth}
-use Rattle.values.specs.declared.Number.{Number}
 use Rattle.values.specs.declared.Outcome.{Outcome}
 use Rattle.values.specs.declared.Slot.{Slot}
 use Rattle.values.specs.Truths.{isTrue, isFalse}
@@ -20,7 +19,7 @@ use Rattle.table.specs.declared.Entry.the-variants.{ImportedCondition, Defined,
 use Rattle.table.specs.declared.VariableSlot.{VariableSlot}
 use Rattle.table.specs.Limits.{limits}
 use Rattle.table.specs.Kinds.{Change, updateOf}
-use Rattle.table.specs.Tables.{entryAt}
+use Rattle.table.specs.Tables.{entryAt, numberAt}
 use Rattle.step.specs.Steps.{Told, nothing, condition, event, Step, toldBy}
 use Rattle.step.specs.Reader.{readStep}
 use Rattle.history.specs.Meaning.{Givens, meaning}
@@ -35,11 +34,9 @@ pub record Walk : Type 0 where
   pub held : List VariableSlot
   pub cells : List ℕ
 
+-- the result of entry k in the slots
 abbrev pub resultIn : List Slot → ℕ → Outcome
 resultIn results k = getD results k (record { outcome = Outcome.Nothing }) .outcome
-
-abbrev pub numberHeld : List VariableSlot → ℕ → Number
-numberHeld held x = getD held x (record { number = Number.Undefined }) .number
 
 -- this step's report of a condition, else what was reported before
 abbrev pub reportedNow : Told → Truth → Truth
@@ -59,14 +56,14 @@ latestNow occurs time kept = cond occurs (suc time) kept
 abbrev pub marked : ℕ → Bool
 marked cell = ltb 0 cell
 
--- what entry k looks at: this step, and what the monitor kept
+-- what entry k looks at: this step, and what the monitor kept; its cell is its own, so its mark means what its kind remembers
 unfoldable pub recalled : Monitor → Step → Walk → ℕ → Givens
 recalled m s w k =
     record {
       told = toldBy (s .reports);
       clock = s .time;
       reported = λ i. reportedNow (toldBy (s .reports) i) (reportedIn m i);
-      held = numberHeld (w .held);
+      held = numberAt (w .held);
       paired = λ a b. openNow (marked (cellAt m k)) (eventIn (resultIn (w .results) a)) (eventIn (resultIn (w .results) b));
       wasTrue = λ c. marked (cellAt m k);
       wasFalse = λ c. marked (cellAt m k);
@@ -151,6 +148,7 @@ advanced m s =
 abbrev pub refusedStep : Refusal → Monitor → Stepped
 refusedStep r m = record { answer = Answer.Refused r; monitor = m; results = noResults }
 
+-- a step that was read is taken; one that was refused changes nothing
 abbrev pub stepReply : Monitor → Got Step → Stepped
 stepReply m (got s end) = advanced m s
 stepReply m (refused r) = refusedStep r m

@@ -14,9 +14,9 @@ use Rattle.table.specs.declared.Entry.{Entry}
 use Rattle.table.specs.declared.Table.{Table}
 use Rattle.table.specs.Limits.{limits}
 use Rattle.table.specs.Kinds.{Operand, entry, imported, variable, constant, kindOf, operandsOf, Change, updateOf}
+use Rattle.table.specs.Below.{someBelow}
 use Rattle.table.specs.Tables.{entryAt}
 use Rattle.table.specs.Faults.{unsoundTable}
-use Rattle.history.specs.History.{someBelow}
 use Rattle.reach.specs.declared.Reach.{Reach}
 
 -- a set of entries, by their numbers

@@ -1,1 +1,2 @@
+-- What each refusal's number is, and which of several faults decides.
 pub mod Numbering

@@ -1,4 +1,4 @@
--- "Refusal numbers and their order": the number of each refusal.
+-- "Refusal numbers and their order": the number of each refusal, and that the first fault decides.
 use mathlib.Core.Bool.{Bool, true, false}
 use Prim.Native.Nat.{ℕ, zero, suc}
 use Rattle.refusals.specs.declared.Answer.{Answer}
@@ -6,6 +6,7 @@ use Rattle.refusals.specs.declared.Answer.the-variants.{Accepted, Refuse
 use Rattle.refusals.specs.declared.Refusal.{Refusal}
 use Rattle.refusals.specs.declared.Refusal.the-variants.{TooLong, Cut, Format, EntryCount, ImportCount, VariableCount, HeaderBits, TableLimits, Initial, Kind, Operand, Sort, Padding, Label, LeftOver, NoRoom, Range, StepCut, Time, StepImport, ImportOrder, ConditionReport, StepPadding, StepLeftOver, Unsound, NoEntry}
 
+-- "No. | Given exactly when": the number of each case, whose sentence stands beside it in src/lib.rt
 abbrev pub numberOf : Refusal → ℕ
 numberOf TooLong = 1
 numberOf Cut = 2

@@ -33,6 +33,7 @@ pub table-first : (t : Table) (block : List ℕ) (room : ℕ) (r : Refusal) → 
 unfolding writerFault
 table-first t block room r bad = rw bad
 
+-- the block comes next
 pub block-next : (t : Table) (block : List ℕ) (room : ℕ) (r : Refusal) → tableFault t ≡ Answer.Accepted → blockFault t block ≡ Answer.Refused r
     → writerFault t block room ≡ Answer.Refused r
 unfolding writerFault
@@ -55,10 +56,12 @@ recordedTable = withEntry (withEntry (withEntry (withEntry (counted 4 1 0) 0 (Im
 abbrev recordedBlock : List ℕ
 recordedBlock = 4 ∷ 0x4C ∷ 0x45 ∷ 0x41 ∷ 0x50 ∷ []
 
+-- the recorded script is read as that table and those labels
 pub recorded-read : (scriptOf recordedScript ≡ got recordedTable 120) × (blockOf recordedScript ≡ recordedBlock)
 unfolding theBits theTwos theFaults theReader
 recorded-read = (refl, refl)
 
+-- and written as the same bytes
 pub recorded-written : (scriptBytes recordedTable recordedBlock ≡ recordedScript) × (writerFault recordedTable recordedBlock 15 ≡ Answer.Accepted)
 unfolding theBits theTwos theFaults theReader theWriter
 recorded-written = (refl, refl)

@@ -26,13 +26,15 @@ use Rattle.script.specs.Labels.{printable, text, label, labels}
 abbrev pub counted : ℕ → ℕ → ℕ → Table
 counted n q v = record { n = n; q = q; v = v; events = emptyTable .events; variables = emptyTable .variables; entries = emptyTable .entries }
 
--- a table with one slot set
+-- a table with one import's sort set
 abbrev pub withEvent : Table → ℕ → Bool → Table
 withEvent t i e = record { n = t .n; q = t .q; v = t .v; events = set (t .events) i e; variables = t .variables; entries = t .entries }
 
+-- a table with one initial value set
 abbrev pub withVariable : Table → ℕ → Number → Table
 withVariable t x y = record { n = t .n; q = t .q; v = t .v; events = t .events; variables = set (t .variables) x (record { number = y }); entries = t .entries }
 
+-- a table with one entry set
 abbrev pub withEntry : Table → ℕ → Entry → Table
 withEntry t k e = record { n = t .n; q = t .q; v = t .v; events = t .events; variables = t .variables; entries = set (t .entries) k (record { entry = e }) }
 
@@ -67,16 +69,19 @@ variables (suc left) x t = do
 unfoldable pub operand : Table → ℕ → (ℕ → Operand) → Reading ℕ
 operand t k o = field Refusal.Cut (widthOf (o 0)) (λ v. operandFault t k (o v))
 
--- an entry with no operand, one, two or three
+-- an entry with no operand
 abbrev pub bare : Entry → Reading Entry
 bare e = give e
 
+-- an entry with one operand
 abbrev pub one : Table → ℕ → (ℕ → Operand) → (ℕ → Entry) → Reading Entry
 one t k o make = operand t k o >>= λ a. give (make a)
 
+-- with two
 abbrev pub two : Table → ℕ → (ℕ → Operand) → (ℕ → Operand) → (ℕ → ℕ → Entry) → Reading Entry
 two t k o p make = operand t k o >>= λ a. one t k p (make a)
 
+-- with three
 abbrev pub three : Table → ℕ → (ℕ → Operand) → (ℕ → Operand) → (ℕ → Operand) → (ℕ → ℕ → ℕ → Entry) → Reading Entry
 three t k o p r make = operand t k o >>= λ a. two t k p r (make a)
 
@@ -161,6 +166,7 @@ labelSpan k = do
   count ← labels (labelsBefore t k)
   label
 
+-- where it was found, or the refusal
 abbrev pub labelReply : Got Span → Label
 labelReply (got span next) = record { answer = Answer.Accepted; span = span }
 labelReply (refused r) = noLabel r
@@ -184,6 +190,7 @@ abbrev pub blockIn : List ℕ → Got Table → List ℕ
 blockIn s (got t end) = blockAfter s (packedTable s 0)
 blockIn s (refused r) = []
 
+-- the block of labels of any bytes
 unfoldable pub blockOf : List ℕ → List ℕ
 blockOf s = blockIn s (scriptOf s)
 

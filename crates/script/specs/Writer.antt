@@ -59,6 +59,7 @@ tableParts t =
 unfoldable pub scriptBytes : Table → List ℕ → List ℕ
 scriptBytes t block = bytesOf (bitsOfAll (tableParts t)) ++ block
 
+-- whether reading went through
 abbrev pub answered : Got ℕ → Answer
 answered (got a next) = Answer.Accepted
 answered (refused r) = Answer.Refused r

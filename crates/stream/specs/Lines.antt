@@ -13,6 +13,7 @@ unfoldable pub digitsTo : ℕ → ℕ → List ℕ
 digitsTo zero n = []
 digitsTo (suc most) n = elim (ltb n 10) [ true ↦ (48 + n) ∷ [] | false ↦ digitsTo most (n / 10) ++ ((48 + n % 10) ∷ []) ]
 
+-- a number in decimal digits, with no leading zero
 unfoldable pub decimal : ℕ → List ℕ
 decimal n = digitsTo (suc n) n
 
@@ -59,6 +60,7 @@ scriptRefusedLine r = line (scriptWord ∷ refusedWord ∷ decimal (numberOf r) 
 unfoldable pub refusedLine : Refusal → List ℕ
 refusedLine r = line (refusedWord ∷ decimal (numberOf r) ∷ [])
 
+-- "prints `cut`"
 unfoldable pub cutLine : List ℕ
 cutLine = line (cutWord ∷ [])
 
@@ -84,6 +86,7 @@ abbrev pub wordLine : ℕ → ℕ → List ℕ → List ℕ → List ℕ
 wordLine time k label [] = []
 wordLine time k label (c ∷ cs) = line (decimal time ∷ (c ∷ cs) ∷ decimal k ∷ label ∷ [])
 
+-- the line of a result, if it has one
 unfoldable pub resultLine : ℕ → ℕ → List ℕ → Outcome → List ℕ
 resultLine time k label o = wordLine time k label (wordFor o)
 

@@ -15,6 +15,7 @@ pub data Next : Type 0 where
 abbrev pub nextOf : ℕ → List ℕ → Next
 nextOf size rest = cond (leb size (length rest)) (whole (take size rest) (drop size rest)) stops
 
+-- "a 16-bit length and [the bytes] (lengths most significant byte first)"
 unfoldable pub nextRecord : List ℕ → Next
 nextRecord [] = end
 nextRecord (high ∷ []) = stops
@@ -25,6 +26,7 @@ pub record Recorded : Type 0 where
   pub records : List (List ℕ)
   pub cut : Bool
 
+-- a record before others
 abbrev pub behind : List ℕ → Recorded → Recorded
 behind bytes later = record { records = bytes ∷ later .records; cut = later .cut }
 
@@ -38,5 +40,6 @@ recordsTo (suc most) input =
       | whole bytes rest ↦ behind bytes (recordsTo most rest)
     ]
 
+-- all of a stream
 unfoldable pub recordsOf : List ℕ → Recorded
 recordsOf input = recordsTo (suc (length input)) input

@@ -20,9 +20,11 @@ pub data Operand : Type 0 where
 abbrev pub C : ℕ → Operand
 C a = entry Sort.Condition a
 
+-- E: an earlier entry that is an event
 abbrev pub E : ℕ → Operand
 E a = entry Sort.Event a
 
+-- N: an earlier entry that is a number
 abbrev pub N : ℕ → Operand
 N a = entry Sort.Number a
 
@@ -30,6 +32,7 @@ N a = entry Sort.Number a
 abbrev pub conditionImport : ℕ → Operand
 conditionImport i = imported Sort.Condition i
 
+-- an event import
 abbrev pub eventImport : ℕ → Operand
 eventImport i = imported Sort.Event i
 

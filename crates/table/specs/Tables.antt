@@ -10,6 +10,7 @@ use Rattle.values.specs.declared.Number.{Number}
 use Rattle.values.specs.Numbers.{eqZ}
 use Rattle.table.specs.declared.Sort.{Sort}
 use Rattle.table.specs.declared.Entry.{Entry}
+use Rattle.table.specs.declared.VariableSlot.{VariableSlot}
 use Rattle.table.specs.declared.Table.{Table}
 use Rattle.table.specs.Limits.{limits}
 use Rattle.table.specs.Kinds.{Operand, entry, imported, variable, constant, operandsOf, labelled}
@@ -24,9 +25,13 @@ pub record Shaped (t : Table) : Type 0 where
 unfoldable pub entryAt : Table → ℕ → Entry
 entryAt t k = getD (t .entries) k (record { entry = Entry.ImportedCondition 0 }) .entry
 
+-- the number in a variable's slot; past the slots, undefined
+abbrev pub numberAt : List VariableSlot → ℕ → Number
+numberAt slots x = getD slots x (record { number = Number.Undefined }) .number
+
 -- the number that a variable starts with
 unfoldable pub initialOf : Table → ℕ → Number
-initialOf t x = getD (t .variables) x (record { number = Number.Undefined }) .number
+initialOf t x = numberAt (t .variables) x
 
 -- "one for each import: 1 an event, 0 a condition"
 unfoldable pub isEvent : Table → ℕ → Bool

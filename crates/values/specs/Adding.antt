@@ -3,6 +3,7 @@ use mathlib.Core.Bool.{Bool, true, false, not, _&&_, _||_, Bool·beq}
 use lib.IntN.{ℤ, pos, negsuc}
 use Rattle.values.specs.Numbers.{inRange}
 
+-- below 0
 abbrev pub negative : ℤ → Bool
 negative (pos n) = false
 negative (negsuc n) = true
