@@ -51,9 +51,13 @@ unfoldable pub listTo {ℓ} : {A : Type ℓ} → ℕ → (ℕ → A) → List A
 listTo zero f = []
 listTo (suc n) f = listTo n f ++ (f n ∷ [])
 
+-- as many bytes, whose bits are these
+unfoldable pub bytesFrom : ℕ → (ℕ → ℕ) → List ℕ
+bytesFrom n bit = listTo n (λ i. numberFrom bit (8 * i) 8)
+
 -- bytes from bits; "zero bits up to a whole byte"
 unfoldable pub bytesOf : List ℕ → List ℕ
-bytesOf bits = listTo ((length bits + 7) / 8) (λ i. numberFrom (λ j. getD bits j 0) (8 * i) 8)
+bytesOf bits = bytesFrom ((length bits + 7) / 8) (λ j. getD bits j 0)
 
 -- how many zero bits bring a position to a whole byte
 abbrev pub paddingAt : ℕ → ℕ
@@ -61,5 +65,5 @@ paddingAt at = (8 - at % 8) % 8
 
 -- names all that fields are computed with: an example says `unfolding theBits`
 unfoldable pub theBits : Unit {0}
-unfolding numberFrom bitAt bitsAt fieldAt bitsOf bitsOfAll listTo bytesOf
+unfolding numberFrom bitAt bitsAt fieldAt bitsOf bitsOfAll listTo bytesFrom bytesOf
 theBits = tt
