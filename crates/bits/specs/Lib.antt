@@ -4,5 +4,6 @@ pub mod Digits
 pub mod Twos
 pub mod Putting
 pub mod Holding
+pub mod Packing
 pub mod Reading
 pub mod Packed
