@@ -4,6 +4,7 @@ pub mod Digits
 pub mod Twos
 pub mod Putting
 pub mod Holding
+pub mod Lists
 pub mod Packing
 pub mod Reading
 pub mod Packed
