@@ -6,5 +6,6 @@ pub mod Putting
 pub mod Holding
 pub mod Lists
 pub mod Packing
+pub mod Putall
 pub mod Reading
 pub mod Packed
