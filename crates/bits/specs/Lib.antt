@@ -6,5 +6,8 @@ pub mod Fields
 pub mod Twos
 pub mod Putting
 pub mod Holding
+pub mod Lists
+pub mod Packing
+pub mod Putall
 pub mod Reading
 pub mod Packed
