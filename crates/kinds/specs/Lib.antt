@@ -1,0 +1,2 @@
+-- Entries as kinds and operands.
+pub mod Apart
