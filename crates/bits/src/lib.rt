@@ -1,4 +1,8 @@
-// A field of 1 to 48 bits, taken from bytes.
+// Fields of 1 to 48 bits in bytes, taken and put, and whole numbers as 48 bits.
+mod twos;
+
+pub use twos::signed;
+pub use twos::unsigned;
 
 // A field that isn't wholly there is an answer of its own.
 pub enum Field {
