@@ -3,7 +3,7 @@ use mathlib.Core.Bool.{cond}
 use mathlib.Core.List.{List, [], _∷_}
 use Prim.Native.Nat.{ℕ}
 use lib.Dec.{ltb}
-use lib.IntN.{ℤ}
+use lib.IntN.{ℤ, pos}
 use lib.ListN.{getD, drop}
 use Rattle.bits.specs.Twos.{signed}
 use Rattle.table.specs.declared.Entry.{Entry}
@@ -12,6 +12,20 @@ use Rattle.table.specs.Kinds as kinds
 use Rattle.script.specs.Operands.{widthOf, fieldOf}
 use Rattle.kinds.specs.declared.Operand.{Operand}
 use Rattle.kinds.specs.declared.Apart.{Apart}
+
+-- a kind and its operands
+abbrev pub threeOperands : ℕ → Operand → Operand → Operand → Apart
+threeOperands kind o p q = record { kind = kind; first = o; second = p; third = q }
+
+-- a kind with no operand, with one, two and three
+abbrev pub noOperand : ℕ → Apart
+noOperand kind = threeOperands kind Operand.Nothing Operand.Nothing Operand.Nothing
+
+abbrev pub oneOperand : ℕ → Operand → Apart
+oneOperand kind o = threeOperands kind o Operand.Nothing Operand.Nothing
+
+abbrev pub twoOperands : ℕ → Operand → Operand → Apart
+twoOperands kind o p = threeOperands kind o p Operand.Nothing
 
 -- the first of some operands, or nothing
 abbrev pub firstOf : List kinds.Operand → Operand
@@ -55,6 +69,14 @@ numberOf (Operand.Imported s i) = fieldOf (imported s i)
 numberOf (Operand.Variable x) = fieldOf (variable x)
 numberOf (Operand.Constant z) = fieldOf (constant z)
 
+-- the number that an operand is; 0 where it names something
+abbrev pub constantOf : Operand → ℤ
+constantOf Operand.Nothing = pos 0
+constantOf (Operand.Entry s a) = pos 0
+constantOf (Operand.Imported s i) = pos 0
+constantOf (Operand.Variable x) = pos 0
+constantOf (Operand.Constant z) = z
+
 -- the operand of the same place, with the number that its field holds
 abbrev pub holding : Operand → ℕ → Operand
 holding Operand.Nothing v = Operand.Nothing
@@ -63,11 +85,10 @@ holding (Operand.Imported s i) v = Operand.Imported s v
 holding (Operand.Variable x) v = Operand.Variable v
 holding (Operand.Constant z) v = Operand.Constant (signed v)
 
--- the entry of a kind, 0 to 24, from the numbers of its operands; from 25 on there is none, and the clock stands in
-unfoldable pub madeOf : ℕ → ℕ → ℕ → ℕ → ℤ → Entry
-madeOf kind a b c z =
-    getD
-    (Entry.ImportedCondition a
+-- an entry of each kind, in order, from the numbers of its operands
+abbrev pub everyKind : ℕ → ℕ → ℕ → ℤ → List Entry
+everyKind a b c z =
+    Entry.ImportedCondition a
     ∷ Entry.Defined a
     ∷ Entry.Pair a b
     ∷ Entry.Not a
@@ -92,9 +113,11 @@ madeOf kind a b c z =
     ∷ Entry.Update a b c
     ∷ Entry.Alarm a
     ∷ Entry.Property a
-    ∷ [])
-    kind
-    Entry.Clock
+    ∷ []
+
+-- the entry of a kind, 0 to 24, from the numbers of its operands; from 25 on there is none, and the clock stands in
+unfoldable pub madeOf : ℕ → ℕ → ℕ → ℕ → ℤ → Entry
+madeOf kind a b c z = getD (everyKind a b c z) kind Entry.Clock
 
 -- the sort of a kind, as a number: conditions come first, then events, then numbers
 abbrev pub sortOfKind : ℕ → ℕ

@@ -1,2 +1,3 @@
--- Entries as kinds and operands.
+-- Entries as kinds and operands, and the laws of both.
 pub mod Apart
+pub mod Laws
