@@ -1,6 +1,10 @@
-// A field of 1 to 48 bits, taken from bytes.
+// Fields of 1 to 48 bits in bytes, taken and put, and whole numbers as 48 bits.
 mod taking;
+mod twos;
+
 pub use taking::field_at;
+pub use twos::signed;
+pub use twos::unsigned;
 
 // A field that isn't wholly there is an answer of its own.
 pub enum Field {
