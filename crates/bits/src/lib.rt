@@ -2,6 +2,7 @@
 mod taking;
 mod twos;
 
+pub use taking::byte_at;
 pub use taking::field_at;
 pub use twos::signed;
 pub use twos::unsigned;

@@ -51,3 +51,14 @@ pub fn field_at(s: &[u8], at: usize, w: usize) -> Field
     }
     Field::There(taken(s, at, w))
 }
+
+// The field that byte `i` is, or the answer that it isn't there.
+pub fn byte_at(s: &[u8], i: usize) -> Field
+    ensures { λ r. ⌜ r ≡ fieldAt (now (s .entry)) (8 * i) 8 ⌝ }
+{
+    if i < s.len() {
+        Field::There(s[i] as u64)
+    } else {
+        Field::Missing
+    }
+}

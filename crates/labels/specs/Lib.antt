@@ -1,0 +1,2 @@
+-- What reading the labels of a script answers.
+pub mod Among

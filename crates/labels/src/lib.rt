@@ -1,0 +1,1 @@
+// Labels read one after another, up to the end of the bytes.
