@@ -1,7 +1,3 @@
-<<<<<<< HEAD
--- What the proofs of several functions share.
+-- What is proved of the crate's contracts besides that its functions meet them, and what several proofs share.
 pub mod Complement
-=======
--- What is proved of the crate's contracts besides that its functions meet them.
 pub mod Determined
->>>>>>> labels
