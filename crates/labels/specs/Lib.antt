@@ -1,2 +1,3 @@
 -- What reading the labels of a script answers.
 pub mod Among
+pub mod Counting

@@ -2,7 +2,7 @@
 use table::Entry;
 use table::Table;
 ghost use mathlib.Core.Path.{_≡_};
-ghost use Prim.Native.Nat.{_≤_};
+ghost use Prim.Native.Nat.{_≤_, min};
 ghost use Rattle.table.specs.Kinds.{labelled};
 ghost use Rattle.table.specs.Tables.{labelsBefore};
 
@@ -10,7 +10,7 @@ ghost use Rattle.table.specs.Tables.{labelsBefore};
 fn labelled(e: Entry) -> bool
     ensures { λ r. ⌜ r ≡ labelled e ⌝ }
 {
-    let kind = kinds::apart(e).kind;
+    let kind = kinds::apart_of(e).kind;
     if kind == 23 {
         return true;
     }
@@ -21,11 +21,10 @@ fn counted(t: Table, k: usize) -> usize
     requires { ⌜ k ≤ 128 ⌝ }
     ensures { λ r. ⌜ r ≡ labelsBefore t k ⌝ }
 {
-    let entries = t.entries;
     let mut count: usize = 0;
     let mut i: usize = 0;
     while i < k {
-        let slot = entries[i];
+        let slot = t.entries[i];
         let e = slot.entry;
         if labelled(e) {
             count += 1;
@@ -35,9 +34,9 @@ fn counted(t: Table, k: usize) -> usize
     count
 }
 
-// How many of the entries before k have a label; past the slots there is none.
+// How many of the entries before k have a label; there are 128 slots.
 pub fn before(t: Table, k: usize) -> usize
-    ensures { λ r. ⌜ r ≡ labelsBefore t k ⌝ }
+    ensures { λ r. ⌜ r ≡ labelsBefore t (min k 128) ⌝ }
 {
     if k < 128 {
         counted(t, k)
