@@ -1,0 +1,6 @@
+-- "table and labels to script and back give the same table and labels"
+pub mod Assumed
+pub mod WrittenSlots
+pub mod WrittenAnswers
+pub mod WrittenSound
+pub mod WrittenFitting
