@@ -3,4 +3,6 @@ pub mod Assumed
 pub mod WrittenSlots
 pub mod WrittenAnswers
 pub mod WrittenSound
+pub mod WrittenSoFar
 pub mod WrittenFitting
+pub mod WrittenHeld

@@ -26,10 +26,10 @@ module _ {A : Type 0} (size : ℕ) (unused : A) where
       List·getD-append (take i l) (replicate (size - i) unused) d j (rw (length-take-le i l long) h) ∙ getD-take i l j d h
 
   -- once the others are unused in l too, all of it is there
-  pub filled-all : (l : List A) (n : ℕ) → length l ≡ size → n ≤ size → ((i : ℕ) → n ≤ i → i < size → getD l i unused ≡ unused) → filled n l ≡ l
-  filled-all l n long h rest =
-      let same : drop n l ≡ replicate (size - n) unused = ext-getD unused (drop n l) (replicate (size - n) unused)
+  pub filled-all : (l : List A) (n : ℕ) (d : A) → length l ≡ size → ((i : ℕ) → n ≤ i → i < size → getD l i d ≡ unused) → filled n l ≡ l
+  filled-all l n d long rest =
+      let same : drop n l ≡ replicate (size - n) unused = ext-getD d (drop n l) (replicate (size - n) unused)
         (length-drop n l ∙ ap (λ (k : ℕ). k - n) long ∙ sym (length-replicate (size - n) unused))
-        (λ i b. getD-drop n l i unused ∙ rest (n + i) (omega arith) (omega (arith, length-drop n l))
-          ∙ sym (getD-replicate (size - n) i unused unused (omega (arith, length-drop n l)))) in
+        (λ i b. getD-drop n l i d ∙ rest (n + i) (omega arith) (omega (arith, length-drop n l))
+          ∙ sym (getD-replicate (size - n) i unused d (omega (arith, length-drop n l)))) in
       ap (λ (r : List A). take n l ++ r) (sym same) ∙ take-append-drop n l

@@ -1,0 +1,52 @@
+-- Readers over bytes that hold what they look for.
+use mathlib.Core.Bool.{Bool, true, false, _&&_, _||_, cond}
+use mathlib.Core.List.{List, [], _∷_, _++_, map}
+use mathlib.Core.Logic.{⊎-elim}
+use mathlib.Core.Path.{_≡_, refl, sym, ap, _∙_, subst}
+use Prim.Native.Nat.{ℕ, zero, suc, _+_, _-_, _<_, _≤_, _^_}
+use native.Mathlib.Nat.{not-suc-le-zero, eq-or-lt-of-le, le-of-suc-le-suc, add-assoc, add-zero}
+use native.Mathlib.Omega.{arith}
+use borrow.Author.Tests.{ltb-true, leb-true, lt-ltb, le-leb}
+use lib.Dec.{leb, ltb, eqb}
+use Rattle.refusals.specs.declared.Refusal.{Refusal}
+use Rattle.refusals.specs.declared.Answer.{Answer}
+use Rattle.refusals.specs.Numbering.{unless, andThen}
+use Rattle.bits.specs.declared.Field.{Field}
+use Rattle.bits.specs.Bits.{Part, fieldAt}
+use Rattle.bits.specs.Holding.{widthOfAll, Holds}
+use Rattle.bits.specs.Reading.{Got, got, Reading, field}
+use Rattle.table.specs.declared.Table.{Table}
+use Rattle.table.specs.Limits.{limits}
+use Rattle.script.specs.Writer.{joined, headerParts}
+use Rattle.script.specs.Reader.{counted, header}
+use Rattle.roundtrip.specs.Assumed.{width-append, holds-first, holds-second}
+use Rattle.roundtrip.specs.WrittenSound.{Limited}
+
+-- a field that is there, with a number that will do
+pub field-held : (cut : Refusal) (w : ℕ) (judge : ℕ → Answer) (s : List ℕ) (at v : ℕ) → fieldAt s at w ≡ Field.There v → judge v ≡ Answer.Accepted
+    → field cut w judge s at ≡ got v (at + w)
+field-held cut w judge s at v there good = rw (there, good)
+
+-- the head of a table within its limits
+pub header-held : (t : Table) → Limited t → (s : List ℕ) (at : ℕ) → Holds s at (headerParts t)
+    → header s at ≡ got (counted (t .n) (t .q) (t .v)) (at + widthOfAll (headerParts t))
+unfolding header headerParts Holds widthOfAll
+header-held t within s at h =
+    rw (h .0, h .1 .0, le-leb 1 (t .n) (within .one), le-leb (t .n) 128 (within .entries), h .1 .1 .0, le-leb (t .q) 48 (within .imports), h .1 .1 .1 .0,
+    le-leb (t .v) 32 (within .variables), h .1 .1 .1 .1 .0)
+    (ap (got (counted (t .n) (t .q) (t .v))) (omega arith))
+
+-- where list i of joined lists begins, and what stands there
+pub joined-held : (s : List ℕ) (at n : ℕ) (f : ℕ → List Part) → Holds s at (joined n f) → (i : ℕ) → i < n
+    → Holds s (at + widthOfAll (joined i f)) (f i)
+unfolding joined
+joined-held s at zero f h i b = absurd (not-suc-le-zero b)
+joined-held s at (suc n) f h i b =
+    ⊎-elim (λ last. subst (λ (j : ℕ). Holds s (at + widthOfAll (joined j f)) (f j)) (sym last) (holds-second s at (joined n f) (f n) h))
+    (λ before. joined-held s at n f (holds-first s at (joined n f) (f n) h) i before)
+    (eq-or-lt-of-le (le-of-suc-le-suc b))
+
+-- where the list after it begins
+pub joined-next : (at : ℕ) (f : ℕ → List Part) (i : ℕ) → at + widthOfAll (joined (suc i) f) ≡ at + widthOfAll (joined i f) + widthOfAll (f i)
+unfolding joined
+joined-next at f i = rw (width-append (joined i f) (f i)) (omega arith)
