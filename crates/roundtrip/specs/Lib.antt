@@ -6,3 +6,4 @@ pub mod WrittenSound
 pub mod WrittenSoFar
 pub mod WrittenFitting
 pub mod WrittenHeld
+pub mod WrittenEntries
