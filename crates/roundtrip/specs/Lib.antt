@@ -7,3 +7,4 @@ pub mod WrittenSoFar
 pub mod WrittenFitting
 pub mod WrittenHeld
 pub mod WrittenEntries
+pub mod WrittenTable
