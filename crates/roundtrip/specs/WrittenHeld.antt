@@ -50,3 +50,8 @@ joined-held s at (suc n) f h i b =
 pub joined-next : (at : ℕ) (f : ℕ → List Part) (i : ℕ) → at + widthOfAll (joined (suc i) f) ≡ at + widthOfAll (joined i f) + widthOfAll (f i)
 unfolding joined
 joined-next at f i = rw (width-append (joined i f) (f i)) (omega arith)
+
+-- where the first list begins
+pub joined-start : (at : ℕ) (f : ℕ → List Part) → at ≡ at + widthOfAll (joined 0 f)
+unfolding joined widthOfAll
+joined-start at f = sym (add-zero at)

@@ -3,7 +3,7 @@ use mathlib.Core.Bool.{Bool, true, false, cond}
 use mathlib.Core.List.{List, [], _∷_, _++_}
 use mathlib.Core.Path.{_≡_, refl, sym, ap, _∙_, subst}
 use Prim.Native.Nat.{ℕ, zero, suc, _+_, _*_, _/_, _%_, _-_, _<_, _≤_}
-use native.Mathlib.Nat.{add-zero}
+use native.Mathlib.Nat.{add-zero, zero-add, add-assoc}
 use native.Mathlib.Omega.{arith}
 use lib.Dec.{eqb}
 use lib.ListN.{length}
@@ -12,10 +12,11 @@ use Rattle.values.specs.Numbers.{inRange}
 use Rattle.refusals.specs.declared.Refusal.{Refusal}
 use Rattle.refusals.specs.declared.Answer.{Answer}
 use Rattle.refusals.specs.Numbering.{unless, andThen}
+use Rattle.bits.specs.declared.Field.{Field}
 use Rattle.bits.specs.Bits.{Part, fieldAt, bitsOfAll, bytesOf, paddingAt}
 use Rattle.bits.specs.Twos.{signed, unsigned}
 use Rattle.bits.specs.Holding.{widthOfAll, Holds}
-use Rattle.bits.specs.Reading.{Got, got, onward}
+use Rattle.bits.specs.Reading.{Got, got, _>>=_, give, padding}
 use Rattle.table.specs.declared.Table.{Table}
 use Rattle.table.specs.Limits.{limits}
 use Rattle.table.specs.Kinds.{Operand, operandsOf}
@@ -28,7 +29,7 @@ use Rattle.roundtrip.specs.WrittenAnswers.{unless-accepted}
 use Rattle.roundtrip.specs.WrittenSound.{Limited, Sound}
 use Rattle.roundtrip.specs.WrittenSoFar.{soFar, so-far-import, so-far-variable, so-far-entry, so-far-operand, so-far-all}
 use Rattle.roundtrip.specs.WrittenFitting.{signed-again, table-fits}
-use Rattle.roundtrip.specs.WrittenHeld.{header-held, joined-held, joined-next}
+use Rattle.roundtrip.specs.WrittenHeld.{header-held, joined-held, joined-next, joined-start}
 use Rattle.roundtrip.specs.WrittenEntries.{entry-held}
 
 -- one bit that says whether an import is an event
@@ -43,29 +44,26 @@ unfolding operandsFault
 so-far-operands t shape within x k h [] = refl
 so-far-operands t shape within x k h (o ∷ os) = rw (so-far-operand t shape within x k h o, so-far-operands t shape within x k h os)
 
+-- the fields of a variable, and of an entry
+abbrev startParts : Table → ℕ → List Part
+startParts t x = numberParts (initialOf t x)
+
+abbrev slotParts : Table → ℕ → List Part
+slotParts t k = entryParts (entryAt t k)
+
 module _ (t : Table) (shape : Shaped t) (sound : Sound t) (s : List ℕ) (at : ℕ) where
-  -- where import i, variable x and entry k begin
-  abbrev importFrom : ℕ → ℕ
-  importFrom i = at + widthOfAll (joined i (importParts t))
-
-  abbrev variableFrom : ℕ → ℕ
-  variableFrom x = at + widthOfAll (joined x (λ y. numberParts (initialOf t y)))
-
-  abbrev entryFrom : ℕ → ℕ
-  entryFrom k = at + widthOfAll (joined k (λ j. entryParts (entryAt t j)))
-
   -- one import, and the others
   import-held : Holds s at (joined (t .q) (importParts t)) → (left i : ℕ) → i < t .q
-      → imports (suc left) i (soFar t i 0 0) s (importFrom i) ≡ imports left (suc i) (soFar t (suc i) 0 0) s (importFrom (suc i))
+      → imports (suc left) i (soFar t i 0 0) s (at + widthOfAll (joined i (importParts t))) ≡ imports left (suc i) (soFar t (suc i) 0 0) s (at + widthOfAll (joined (suc i) (importParts t)))
   unfolding imports Holds importParts widthOfAll
   import-held held left i h =
       rw (joined-held s at (t .q) (importParts t) held i h .0, bit-again (isEvent t i), joined-next at (importParts t) i,
       so-far-import t shape i 0 0 (omega (arith, sound .within .imports)))
 
   imports-held : Holds s at (joined (t .q) (importParts t)) → (left i : ℕ) → i + left ≡ t .q
-      → imports left i (soFar t i 0 0) s (importFrom i) ≡ got (soFar t (t .q) 0 0) (importFrom (t .q))
+      → imports left i (soFar t i 0 0) s (at + widthOfAll (joined i (importParts t))) ≡ got (soFar t (t .q) 0 0) (at + widthOfAll (joined (t .q) (importParts t)))
   unfolding imports
-  imports-held held zero i all = ap (λ (j : ℕ). got (soFar t j 0 0) (importFrom j)) (sym (add-zero i) ∙ all)
+  imports-held held zero i all = ap (λ (j : ℕ). got (soFar t j 0 0) (at + widthOfAll (joined j (importParts t)))) (sym (add-zero i) ∙ all)
   imports-held held (suc left) i more = import-held held left i (omega arith) ∙ imports-held held left (suc i) (omega arith)
 
   -- one variable, whatever it starts with, and the others
@@ -77,29 +75,76 @@ module _ (t : Table) (shape : Shaped t) (sound : Sound t) (s : List ℕ) (at : �
       rw (held .0, held .1 .0, signed-again z (unless-accepted (inRange z) Refusal.Range good))
       (ap (variables left (suc x) (withVariable so x (Number.Whole z)) s) (omega arith))
 
-  variable-held : Holds s at (joined (t .v) (λ y. numberParts (initialOf t y))) → (left x : ℕ) → x < t .v
-      → variables (suc left) x (soFar t (t .q) x 0) s (variableFrom x) ≡ variables left (suc x) (soFar t (t .q) (suc x) 0) s (variableFrom (suc x))
+  variable-held : Holds s at (joined (t .v) (startParts t)) → (left x : ℕ) → x < t .v
+      → variables (suc left) x (soFar t (t .q) x 0) s (at + widthOfAll (joined x (startParts t))) ≡ variables left (suc x) (soFar t (t .q) (suc x) 0) s (at + widthOfAll (joined (suc x) (startParts t)))
   variable-held held left x h =
-      number-held (initialOf t x) (sound .numbers x h) left x (variableFrom x) (soFar t (t .q) x 0) (joined-held s at (t .v) (λ y. numberParts (initialOf t y)) held x h)
-      ∙ rw (so-far-variable t shape (t .q) x 0 (omega (arith, sound .within .variables)), joined-next at (λ y. numberParts (initialOf t y)) x)
+      number-held (initialOf t x) (sound .numbers x h) left x (at + widthOfAll (joined x (startParts t))) (soFar t (t .q) x 0) (joined-held s at (t .v) (startParts t) held x h)
+      ∙ rw (so-far-variable t shape (t .q) x 0 (omega (arith, sound .within .variables)), joined-next at (startParts t) x)
 
-  variables-held : Holds s at (joined (t .v) (λ y. numberParts (initialOf t y))) → (left x : ℕ) → x + left ≡ t .v
-      → variables left x (soFar t (t .q) x 0) s (variableFrom x) ≡ got (soFar t (t .q) (t .v) 0) (variableFrom (t .v))
+  variables-held : Holds s at (joined (t .v) (startParts t)) → (left x : ℕ) → x + left ≡ t .v
+      → variables left x (soFar t (t .q) x 0) s (at + widthOfAll (joined x (startParts t))) ≡ got (soFar t (t .q) (t .v) 0) (at + widthOfAll (joined (t .v) (startParts t)))
   unfolding variables
-  variables-held held zero x all = ap (λ (y : ℕ). got (soFar t (t .q) y 0) (variableFrom y)) (sym (add-zero x) ∙ all)
+  variables-held held zero x all = ap (λ (y : ℕ). got (soFar t (t .q) y 0) (at + widthOfAll (joined y (startParts t)))) (sym (add-zero x) ∙ all)
   variables-held held (suc left) x more = variable-held held left x (omega arith) ∙ variables-held held left (suc x) (omega arith)
 
   -- one entry, and the others
-  entry-next : Holds s at (joined (t .n) (λ j. entryParts (entryAt t j))) → (left k : ℕ) → k < t .n
-      → entries (suc left) k (soFar t (t .q) (t .v) k) s (entryFrom k) ≡ entries left (suc k) (soFar t (t .q) (t .v) (suc k)) s (entryFrom (suc k))
+  entry-next : Holds s at (joined (t .n) (slotParts t)) → (left k : ℕ) → k < t .n
+      → entries (suc left) k (soFar t (t .q) (t .v) k) s (at + widthOfAll (joined k (slotParts t))) ≡ entries left (suc k) (soFar t (t .q) (t .v) (suc k)) s (at + widthOfAll (joined (suc k) (slotParts t)))
   unfolding entries
   entry-next held left k h =
       let good = so-far-operands t shape (sound .within) (t .v) k (omega (arith, sound .within .entries)) (operandsOf (entryAt t k)) ∙ sound .operands k h in
-      rw (entry-held (soFar t (t .q) (t .v) k) k s (entryFrom k) (entryAt t k) (joined-held s at (t .n) (λ j. entryParts (entryAt t j)) held k h) good,
-      so-far-entry t shape (t .q) (t .v) k (omega (arith, sound .within .entries)), joined-next at (λ j. entryParts (entryAt t j)) k)
+      rw (entry-held (soFar t (t .q) (t .v) k) k s (at + widthOfAll (joined k (slotParts t))) (entryAt t k) (joined-held s at (t .n) (slotParts t) held k h) good,
+      so-far-entry t shape (t .q) (t .v) k (omega (arith, sound .within .entries)), joined-next at (slotParts t) k)
 
-  entries-held : Holds s at (joined (t .n) (λ j. entryParts (entryAt t j))) → (left k : ℕ) → k + left ≡ t .n
-      → entries left k (soFar t (t .q) (t .v) k) s (entryFrom k) ≡ got (soFar t (t .q) (t .v) (t .n)) (entryFrom (t .n))
+  entries-held : Holds s at (joined (t .n) (slotParts t)) → (left k : ℕ) → k + left ≡ t .n
+      → entries left k (soFar t (t .q) (t .v) k) s (at + widthOfAll (joined k (slotParts t))) ≡ got (soFar t (t .q) (t .v) (t .n)) (at + widthOfAll (joined (t .n) (slotParts t)))
   unfolding entries
-  entries-held held zero k all = ap (λ (j : ℕ). got (soFar t (t .q) (t .v) j) (entryFrom j)) (sym (add-zero k) ∙ all)
+  entries-held held zero k all = ap (λ (j : ℕ). got (soFar t (t .q) (t .v) j) (at + widthOfAll (joined j (slotParts t)))) (sym (add-zero k) ∙ all)
   entries-held held (suc left) k more = entry-next held left k (omega arith) ∙ entries-held held left (suc k) (omega arith)
+
+  -- all imports, all variables, all entries
+  all-imports : Holds s at (joined (t .q) (importParts t)) → imports (t .q) 0 (soFar t 0 0 0) s at ≡ got (soFar t (t .q) 0 0) (at + widthOfAll (joined (t .q) (importParts t)))
+  all-imports held = ap (imports (t .q) 0 (soFar t 0 0 0) s) (joined-start at (importParts t)) ∙ imports-held held (t .q) 0 (zero-add (t .q))
+
+  all-variables : Holds s at (joined (t .v) (startParts t))
+      → variables (t .v) 0 (soFar t (t .q) 0 0) s at ≡ got (soFar t (t .q) (t .v) 0) (at + widthOfAll (joined (t .v) (startParts t)))
+  all-variables held =
+      ap (variables (t .v) 0 (soFar t (t .q) 0 0) s) (joined-start at (startParts t)) ∙ variables-held held (t .v) 0 (zero-add (t .v))
+
+  all-entries : Holds s at (joined (t .n) (slotParts t))
+      → entries (t .n) 0 (soFar t (t .q) (t .v) 0) s at ≡ got t (at + widthOfAll (joined (t .n) (slotParts t)))
+  all-entries held =
+      ap (entries (t .n) 0 (soFar t (t .q) (t .v) 0) s) (joined-start at (slotParts t)) ∙ entries-held held (t .n) 0 (zero-add (t .n))
+      ∙ ap (λ (u : Table). got u (at + widthOfAll (joined (t .n) (slotParts t)))) (so-far-all t shape (sound .unused))
+
+-- how wide all the fields are
+table-wide : (t : Table) → widthOfAll (tableParts t)
+    ≡ 0 + widthOfAll (headerParts t) + widthOfAll (joined (t .q) (importParts t)) + widthOfAll (joined (t .v) (startParts t))
+      + widthOfAll (joined (t .n) (slotParts t))
+unfolding tableParts
+table-wide t = simp width-append (omega arith)
+
+-- zero bits up to a whole byte
+padding-held : (s : List ℕ) (at : ℕ) (t : Table) → fieldAt s at (paddingAt at) ≡ Field.There 0
+    → (padding Refusal.Cut Refusal.Padding >>= λ zeros. give t) s at ≡ got t (at + paddingAt at)
+padding-held s at t zeros = rw zeros
+
+-- bytes that hold the fields of a table, and zero bits up to a whole byte
+pub table-held : (t : Table) → Shaped t → Sound t → (s : List ℕ) → Holds s 0 (tableParts t)
+    → fieldAt s (widthOfAll (tableParts t)) (paddingAt (widthOfAll (tableParts t))) ≡ Field.There 0
+    → packedTable s 0 ≡ got t (widthOfAll (tableParts t) + paddingAt (widthOfAll (tableParts t)))
+unfolding packedTable tableParts
+table-held t shape sound s held zeros =
+    let entryFields = joined (t .n) (slotParts t) in
+    let variableFields = joined (t .v) (startParts t) in
+    let importFields = joined (t .q) (importParts t) in
+    let afterHead = 0 + widthOfAll (headerParts t) in
+    let afterImports = afterHead + widthOfAll importFields in
+    let afterVariables = afterImports + widthOfAll variableFields in
+    let imports = holds-second s 0 (headerParts t) (importFields ++ (variableFields ++ entryFields)) held in
+    let variables = holds-second s afterHead importFields (variableFields ++ entryFields) imports in
+    rw (header-held t (sound .within) s 0 (holds-first s 0 (headerParts t) (importFields ++ (variableFields ++ entryFields)) held),
+    all-imports t shape sound s afterHead (holds-first s afterHead importFields (variableFields ++ entryFields) imports),
+    all-variables t shape sound s afterImports (holds-first s afterImports variableFields entryFields variables),
+    all-entries t shape sound s afterVariables (holds-second s afterImports variableFields entryFields variables), ← table-wide t)
+    (padding-held s (widthOfAll (tableParts t)) t zeros)
