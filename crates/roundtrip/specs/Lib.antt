@@ -8,3 +8,4 @@ pub mod WrittenFitting
 pub mod WrittenHeld
 pub mod WrittenEntries
 pub mod WrittenTable
+pub mod WrittenLabels

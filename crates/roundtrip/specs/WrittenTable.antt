@@ -148,3 +148,15 @@ table-held t shape sound s held zeros =
     all-variables t shape sound s afterImports (holds-first s afterImports variableFields entryFields variables),
     all-entries t shape sound s afterVariables (holds-second s afterImports variableFields entryFields variables), ← table-wide t)
     (padding-held s (widthOfAll (tableParts t)) t zeros)
+
+-- zero bits bring a width to as many whole bytes as it takes
+whole-bytes : (w : ℕ) → w + paddingAt w ≡ 8 * ((w + 7) / 8)
+whole-bytes w = omega arith
+
+-- a packed table is read again, whatever follows it
+pub packed-again : (t : Table) → Shaped t → Sound t → (rest : List ℕ)
+    → packedTable (bytesOf (bitsOfAll (tableParts t)) ++ rest) 0 ≡ got t (8 * length (bytesOf (bitsOfAll (tableParts t))))
+packed-again t shape sound rest =
+    table-held t shape sound (bytesOf (bitsOfAll (tableParts t)) ++ rest) (packed-holds (tableParts t) rest (table-fits t sound))
+    (packed-padding (tableParts t) rest)
+    ∙ ap (got t) (whole-bytes (widthOfAll (tableParts t)) ∙ ap (λ (n : ℕ). 8 * n) (sym (length-packed (tableParts t))))
