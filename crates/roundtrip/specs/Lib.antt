@@ -9,3 +9,4 @@ pub mod WrittenHeld
 pub mod WrittenEntries
 pub mod WrittenTable
 pub mod WrittenLabels
+pub mod WrittenAgain

@@ -3,7 +3,7 @@ use mathlib.Core.Bool.{Bool, true, false, _&&_, cond}
 use mathlib.Core.List.{List, _++_}
 use mathlib.Core.Path.{_≡_, refl, sym, ap, _∙_}
 use Prim.Native.Nat.{ℕ, zero, suc, _+_, _*_, _/_, _%_, _^_, _-_, _≤_}
-use native.Mathlib.Nat.{add-assoc}
+use native.Mathlib.Nat.{add-assoc, add-zero}
 use native.Mathlib.Omega.{arith}
 use borrow.Author.Tests.{leb-true, le-leb, eqb-true, eq-eqb}
 use lib.Dec.{leb, eqb}
@@ -131,11 +131,18 @@ module _ (front s : List ℕ) where
         (λ here. eq-eqb (8 * length front + at) (8 * length (front ++ s)) (omega (arith, eqb-true at (8 * length s) here, length-append front s))) in
       rw end (judged-moved same (8 * length front) (unless (eqb at (8 * length s)) Refusal.LeftOver) 0 at)
 
-  -- "For each alarm and property entry, in order: [a label]. Nothing follows."
-  pub block-after : (count at : ℕ)
+  -- labels from a bit on, and nothing after them
+  block-after : (count at : ℕ)
       → (labels count >>= λ n. ended Refusal.LeftOver) (front ++ s) (8 * length front + at)
         ≡ moved same (8 * length front) ((labels count >>= λ n. ended Refusal.LeftOver) s at)
   block-after count at =
       ap (λ (n : Got ℕ). onward n (λ m next. ended Refusal.LeftOver (front ++ s) next)) (labels-after count at)
       ∙ onward-moved same same (8 * length front) (labels count s at) (λ m next. ended Refusal.LeftOver s next)
         (λ m next. ended Refusal.LeftOver (front ++ s) next) (λ m next. ended-after next)
+
+  -- "For each alarm and property entry, in order: [a label]. Nothing follows."
+  pub block-moved : (count : ℕ)
+      → (labels count >>= λ n. ended Refusal.LeftOver) (front ++ s) (8 * length front)
+        ≡ moved same (8 * length front) ((labels count >>= λ n. ended Refusal.LeftOver) s 0)
+  block-moved count =
+      ap (λ (at : ℕ). (labels count >>= λ n. ended Refusal.LeftOver) (front ++ s) at) (sym (add-zero (8 * length front))) ∙ block-after count 0
