@@ -1,5 +1,4 @@
 -- "table and labels to script and back give the same table and labels"
-pub mod Assumed
 pub mod WrittenSlots
 pub mod WrittenAnswers
 pub mod WrittenSound

@@ -24,7 +24,7 @@ use Rattle.table.specs.Tables.{entryAt, isEvent, importSort, initialOf, unusedS
 use Rattle.table.specs.Faults.{operandFault, operandsFault, limitsFault, numberFault, tableFault}
 use Rattle.script.specs.Operands.{widthOf, fieldOf}
 use Rattle.script.specs.Writer.{part, joined, headerParts, importParts, numberParts, entryParts, tableParts}
-use Rattle.roundtrip.specs.Assumed.{fitting-append}
+use Rattle.bits.specs.Packing.{fitting-append}
 use Rattle.roundtrip.specs.WrittenAnswers.{unless-accepted, accepted-first, accepted-second}
 use Rattle.roundtrip.specs.WrittenSound.{Limited, Sound}
 

@@ -19,7 +19,7 @@ use Rattle.table.specs.declared.Table.{Table}
 use Rattle.table.specs.Limits.{limits}
 use Rattle.script.specs.Writer.{joined, headerParts}
 use Rattle.script.specs.Reader.{counted, header}
-use Rattle.roundtrip.specs.Assumed.{width-append, holds-first, holds-second}
+use Rattle.bits.specs.Packing.{width-append, holds-first, holds-second}
 use Rattle.roundtrip.specs.WrittenSound.{Limited}
 
 -- a field that is there, with a number that will do

@@ -24,7 +24,7 @@ use Rattle.table.specs.Tables.{Shaped, entryAt, isEvent, initialOf}
 use Rattle.table.specs.Faults.{operandFault, operandsFault, numberFault}
 use Rattle.script.specs.Reader.{counted, withEvent, withVariable, withEntry, starting, header, imports, variables, entry, entries, packedTable}
 use Rattle.script.specs.Writer.{part, joined, headerParts, importParts, numberParts, entryParts, tableParts, scriptBytes}
-use Rattle.roundtrip.specs.Assumed.{width-append, holds-first, holds-second, length-packed, packed-holds, packed-padding}
+use Rattle.bits.specs.Packing.{width-append, holds-first, holds-second, length-packed, packed-holds, packed-padding}
 use Rattle.roundtrip.specs.WrittenAnswers.{unless-accepted}
 use Rattle.roundtrip.specs.WrittenSound.{Limited, Sound}
 use Rattle.roundtrip.specs.WrittenSoFar.{soFar, so-far-import, so-far-variable, so-far-entry, so-far-operand, so-far-all}
