@@ -1,9 +1,10 @@
 -- "table and labels to script and back give the same table and labels"
-pub mod WrittenSlots
 pub mod WrittenAnswers
+pub mod WrittenTwos
 pub mod WrittenSound
-pub mod WrittenSoFar
 pub mod WrittenFitting
+pub mod WrittenSlots
+pub mod WrittenSoFar
 pub mod WrittenHeld
 pub mod WrittenEntries
 pub mod WrittenTable

@@ -1,16 +1,13 @@
 -- "table and labels to script and back give the same table and labels"
-use mathlib.Core.Bool.{cond}
 use mathlib.Core.List.{List, _++_}
-use mathlib.Core.Path.{_≡_, refl, sym, ap, _∙_}
+use mathlib.Core.Path.{_≡_, refl, ap, _∙_}
 use Prim.Native.Nat.{ℕ, _+_, _*_, _/_, _≤_}
 use native.Mathlib.Omega.{arith}
 use borrow.Author.Tests.{leb-true, le-ltb}
-use lib.Dec.{leb, ltb}
-use lib.ListN.{length, drop}
+use lib.ListN.{length}
 use lib.Seq.{drop-append-seam}
 use Rattle.refusals.specs.declared.Refusal.{Refusal}
 use Rattle.refusals.specs.declared.Answer.{Answer}
-use Rattle.refusals.specs.Numbering.{unless, andThen}
 use Rattle.bits.specs.Bits.{bitsOfAll, bytesOf}
 use Rattle.bits.specs.Reading.{Got, got, refused, onward, _>>=_, ended}
 use Rattle.table.specs.declared.Table.{Table}
@@ -18,7 +15,7 @@ use Rattle.table.specs.Limits.{limits}
 use Rattle.table.specs.Tables.{Shaped, labelsBefore}
 use Rattle.table.specs.Faults.{tableFault}
 use Rattle.script.specs.Labels.{labels}
-use Rattle.script.specs.Reader.{packedTable, wholeScript, scriptOf, scriptReply, readScript, blockAfter, blockIn, blockOf}
+use Rattle.script.specs.Reader.{wholeScript, scriptOf, scriptReply, readScript, blockOf}
 use Rattle.script.specs.Writer.{tableParts, scriptBytes, answered, blockFault, writerFault}
 use Rattle.roundtrip.specs.WrittenAnswers.{not-accepted, unless-accepted, accepted-first, accepted-second}
 use Rattle.roundtrip.specs.WrittenSound.{sound-table}

@@ -1,13 +1,17 @@
 -- What an accepted answer says of its parts.
-use mathlib.Core.Bool.{Bool, true, false, _&&_, cond}
+use mathlib.Core.Bool.{Bool, true, false, _&&_}
 use mathlib.Core.Logic.{⊎-elim}
-use mathlib.Core.Path.{_≡_, refl, sym, ap, _∙_, subst}
+use mathlib.Core.Path.{_≡_, refl, sym, subst}
 use Prim.Native.Nat.{ℕ, zero, suc, _<_}
 use native.Mathlib.Nat.{not-suc-le-zero, eq-or-lt-of-le, le-of-suc-le-suc}
 use native.Mathlib.Omega.{arith}
 use Rattle.refusals.specs.declared.Refusal.{Refusal}
 use Rattle.refusals.specs.declared.Answer.{Answer}
 use Rattle.refusals.specs.Numbering.{unless, andThen, firstFault}
+
+-- false is not true
+pub never : {X : Type 0} → false ≡ true → X
+never e = absurd (let z : _≡_ {A = ℕ} 0 1 = cc e in omega arith)
 
 -- a refusal is no acceptance
 pub not-accepted : {X : Type 0} (r : Refusal) → Answer.Refused r ≡ Answer.Accepted → X
@@ -43,4 +47,4 @@ both-first false b e = e
 
 pub both-second : (a b : Bool) → (a && b) ≡ true → b ≡ true
 both-second true b e = e
-both-second false b e = absurd (let z : _≡_ {A = ℕ} 0 1 = cc e in omega arith)
+both-second false b e = never e

@@ -1,8 +1,8 @@
 -- An entry that was written is read again: the twenty-five kinds.
 use mathlib.Core.Bool.{true}
 use mathlib.Core.List.{List, [], _∷_}
-use mathlib.Core.Path.{_≡_, refl, sym, ap, _∙_, subst}
-use Prim.Native.Nat.{ℕ, _+_, _<_}
+use mathlib.Core.Path.{_≡_, refl, ap, _∙_}
+use Prim.Native.Nat.{ℕ, _+_}
 use native.Mathlib.Omega.{arith}
 use lib.Dec.{ltb}
 use lib.IntN.{ℤ}
@@ -11,7 +11,6 @@ use Rattle.values.specs.Numbers.{inRange}
 use Rattle.refusals.specs.declared.Refusal.{Refusal}
 use Rattle.refusals.specs.declared.Answer.{Answer}
 use Rattle.refusals.specs.Numbering.{unless, andThen}
-use Rattle.bits.specs.Bits.{Part}
 use Rattle.bits.specs.Twos.{signed, unsigned}
 use Rattle.bits.specs.Holding.{widthOfAll, Holds}
 use Rattle.bits.specs.Reading.{got}
@@ -20,11 +19,11 @@ use Rattle.table.specs.declared.Entry.the-variants.{ImportedCondition, Defined,
 use Rattle.table.specs.declared.Table.{Table}
 use Rattle.table.specs.Kinds.{Operand, C, E, N, conditionImport, eventImport, variable, constant, kindOf, operandsOf}
 use Rattle.table.specs.Faults.{operandFault, operandsFault}
-use Rattle.script.specs.Operands.{widthOf, fieldOf, constantField}
+use Rattle.script.specs.Operands.{widthOf, constantField}
 use Rattle.script.specs.Reader.{operand, bare, one, two, three, kinds, entry}
 use Rattle.script.specs.Writer.{part, entryParts}
 use Rattle.roundtrip.specs.WrittenAnswers.{unless-accepted, accepted-first, accepted-second}
-use Rattle.roundtrip.specs.WrittenFitting.{signed-again}
+use Rattle.roundtrip.specs.WrittenTwos.{signed-again}
 
 module _ (t : Table) (k : ℕ) (s : List ℕ) (at : ℕ) where
   -- no operand

@@ -1,45 +1,31 @@
 -- Every field of a table without fault holds its number.
-use mathlib.Core.Bool.{Bool, true, false, _&&_, cond}
-use mathlib.Core.List.{List, [], _∷_, _++_, map}
-use mathlib.Core.Path.{_≡_, refl, sym, ap, _∙_, subst}
-use Prim.Native.Nat.{ℕ, zero, suc, _+_, _-_, _<_, _≤_, _^_}
+use mathlib.Core.Bool.{Bool, true, false, cond}
+use mathlib.Core.List.{List, [], _∷_, map}
+use mathlib.Core.Path.{_≡_}
+use Prim.Native.Nat.{ℕ, zero, suc, _<_, _≤_, _^_}
 use native.Mathlib.Omega.{arith}
-use borrow.Author.Tests.{ltb-true, leb-true, lt-ltb, le-ltb}
-use lib.Dec.{leb, ltb}
-use lib.IntN.{ℤ, pos, negsuc}
+use borrow.Author.Tests.{ltb-true}
+use lib.Dec.{ltb}
 use Rattle.values.specs.declared.Number.{Number}
 use Rattle.values.specs.Numbers.{inRange}
 use Rattle.refusals.specs.declared.Refusal.{Refusal}
 use Rattle.refusals.specs.declared.Answer.{Answer}
-use Rattle.refusals.specs.Numbering.{unless, andThen, firstFault}
+use Rattle.refusals.specs.Numbering.{unless}
 use Rattle.bits.specs.Bits.{Part}
-use Rattle.bits.specs.Twos.{signed, unsigned}
-use Rattle.bits.specs.Holding.{widthOfAll, Fitting}
+use Rattle.bits.specs.Holding.{Fitting}
 use Rattle.table.specs.declared.Entry.{Entry}
 use Rattle.table.specs.declared.Entry.the-variants.{ImportedCondition, Defined, Pair, Not, Or, And, Implies, Less, Equal, ImportedEvent, Start, End, Both, Either, When, Constant, Variable, Sum, Difference, Clock, Value, Time, Update, Alarm, Property}
 use Rattle.table.specs.declared.Table.{Table}
 use Rattle.table.specs.Limits.{limits}
-use Rattle.table.specs.Kinds.{Operand, entry, imported, variable, constant, kindOf, operandsOf, sortOf, sameSort}
-use Rattle.table.specs.Tables.{entryAt, isEvent, importSort, initialOf, unusedSlots}
-use Rattle.table.specs.Faults.{operandFault, operandsFault, limitsFault, numberFault, tableFault}
+use Rattle.table.specs.Kinds.{Operand, entry, imported, variable, constant, kindOf, operandsOf}
+use Rattle.table.specs.Tables.{entryAt, isEvent, initialOf}
+use Rattle.table.specs.Faults.{operandFault, operandsFault, numberFault}
 use Rattle.script.specs.Operands.{widthOf, fieldOf}
 use Rattle.script.specs.Writer.{part, joined, headerParts, importParts, numberParts, entryParts, tableParts}
 use Rattle.bits.specs.Packing.{fitting-append}
 use Rattle.roundtrip.specs.WrittenAnswers.{unless-accepted, accepted-first, accepted-second}
+use Rattle.roundtrip.specs.WrittenTwos.{unsigned-lt}
 use Rattle.roundtrip.specs.WrittenSound.{Limited, Sound}
-
--- a number in range takes 48 bits
-pub unsigned-lt : (z : ℤ) → inRange z ≡ true → unsigned z < 2 ^ 48
-unfolding unsigned
-unsigned-lt (pos n) h = omega (arith, ltb-true n (2 ^ 47) h)
-unsigned-lt (negsuc n) h = omega arith
-
--- and they stand for it again
-pub signed-again : (z : ℤ) → inRange z ≡ true → signed (unsigned z) ≡ z
-unfolding signed unsigned
-signed-again (pos n) h = rw h
-signed-again (negsuc n) h =
-    rw (le-ltb (2 ^ 48 - suc n) (2 ^ 47) (omega (arith, ltb-true n (2 ^ 47) h))) (ap negsuc (omega (arith, ltb-true n (2 ^ 47) h)))
 
 -- there are fewer kinds than 5 bits can say
 pub kind-lt : (e : Entry) → kindOf e < 25
@@ -85,10 +71,10 @@ module _ (t : Table) (within : Limited t) where
   operand-fits : (k : ℕ) → k ≤ limits .entries → (o : Operand) → operandFault t k o ≡ Answer.Accepted → (widthOf o ≤ 48) × (fieldOf o < 2 ^ widthOf o)
   unfolding operandFault
   operand-fits k h (entry s a) good =
-      let early = unless-accepted (ltb a k) Refusal.Operand (accepted-first (unless (ltb a k) Refusal.Operand) (unless (sameSort (sortOf (entryAt t a)) s) Refusal.Sort) good) in
+      let early = unless-accepted (ltb a k) Refusal.Operand (accepted-first (unless (ltb a k) Refusal.Operand) _ good) in
       (omega arith, omega (arith, ltb-true a k early))
   operand-fits k h (imported s i) good =
-      let there = unless-accepted (ltb i (t .q)) Refusal.Operand (accepted-first (unless (ltb i (t .q)) Refusal.Operand) (unless (sameSort (importSort t i) s) Refusal.Sort) good) in
+      let there = unless-accepted (ltb i (t .q)) Refusal.Operand (accepted-first (unless (ltb i (t .q)) Refusal.Operand) _ good) in
       (omega arith, omega (arith, ltb-true i (t .q) there))
   operand-fits k h (variable x) good = (omega arith, omega (arith, ltb-true x (t .v) (unless-accepted (ltb x (t .v)) Refusal.Operand good)))
   operand-fits k h (constant z) good = (omega arith, unsigned-lt z (unless-accepted (inRange z) Refusal.Range good))

@@ -1,31 +1,19 @@
 -- Readers over bytes that hold what they look for.
-use mathlib.Core.Bool.{Bool, true, false, _&&_, _||_, cond}
-use mathlib.Core.List.{List, [], _∷_, _++_, map}
+use mathlib.Core.List.{List}
 use mathlib.Core.Logic.{⊎-elim}
-use mathlib.Core.Path.{_≡_, refl, sym, ap, _∙_, subst}
-use Prim.Native.Nat.{ℕ, zero, suc, _+_, _-_, _<_, _≤_, _^_}
-use native.Mathlib.Nat.{not-suc-le-zero, eq-or-lt-of-le, le-of-suc-le-suc, add-assoc, add-zero}
+use mathlib.Core.Path.{_≡_, sym, ap, subst}
+use Prim.Native.Nat.{ℕ, zero, suc, _+_, _<_}
+use native.Mathlib.Nat.{not-suc-le-zero, eq-or-lt-of-le, le-of-suc-le-suc, add-zero}
 use native.Mathlib.Omega.{arith}
-use borrow.Author.Tests.{ltb-true, leb-true, lt-ltb, le-leb}
-use lib.Dec.{leb, ltb, eqb}
-use Rattle.refusals.specs.declared.Refusal.{Refusal}
-use Rattle.refusals.specs.declared.Answer.{Answer}
-use Rattle.refusals.specs.Numbering.{unless, andThen}
-use Rattle.bits.specs.declared.Field.{Field}
-use Rattle.bits.specs.Bits.{Part, fieldAt}
+use borrow.Author.Tests.{le-leb}
+use Rattle.bits.specs.Bits.{Part}
 use Rattle.bits.specs.Holding.{widthOfAll, Holds}
-use Rattle.bits.specs.Reading.{Got, got, Reading, field}
+use Rattle.bits.specs.Reading.{got}
 use Rattle.table.specs.declared.Table.{Table}
-use Rattle.table.specs.Limits.{limits}
 use Rattle.script.specs.Writer.{joined, headerParts}
 use Rattle.script.specs.Reader.{counted, header}
 use Rattle.bits.specs.Packing.{width-append, holds-first, holds-second}
 use Rattle.roundtrip.specs.WrittenSound.{Limited}
-
--- a field that is there, with a number that will do
-pub field-held : (cut : Refusal) (w : ℕ) (judge : ℕ → Answer) (s : List ℕ) (at v : ℕ) → fieldAt s at w ≡ Field.There v → judge v ≡ Answer.Accepted
-    → field cut w judge s at ≡ got v (at + w)
-field-held cut w judge s at v there good = rw (there, good)
 
 -- the head of a table within its limits
 pub header-held : (t : Table) → Limited t → (s : List ℕ) (at : ℕ) → Holds s at (headerParts t)

@@ -1,20 +1,20 @@
 -- Labels that stand after whole bytes are read as they are by themselves.
-use mathlib.Core.Bool.{Bool, true, false, _&&_, cond}
+use mathlib.Core.Bool.{Bool, true, false, cond}
 use mathlib.Core.List.{List, _++_}
 use mathlib.Core.Path.{_≡_, refl, sym, ap, _∙_}
-use Prim.Native.Nat.{ℕ, zero, suc, _+_, _*_, _/_, _%_, _^_, _-_, _≤_}
+use Prim.Native.Nat.{ℕ, zero, suc, _+_, _*_, _/_, _%_}
 use native.Mathlib.Nat.{add-assoc, add-zero}
 use native.Mathlib.Omega.{arith}
 use borrow.Author.Tests.{leb-true, le-leb, eqb-true, eq-eqb}
 use lib.Dec.{leb, eqb}
-use lib.ListN.{length, getD, take, drop, length-append}
+use lib.ListN.{length, take, drop, length-append}
 use lib.Seq.{getD-append-add, drop-append-add}
 use Rattle.refusals.specs.declared.Refusal.{Refusal}
 use Rattle.refusals.specs.declared.Answer.{Answer}
 use Rattle.refusals.specs.Numbering.{unless}
 use Rattle.bits.specs.declared.Field.{Field}
-use Rattle.bits.specs.Bits.{numberFrom, bitAt, bitsAt, wholly, widest, fieldAt}
-use Rattle.bits.specs.Reading.{Got, got, refused, Reading, onward, _>>=_, judged, taken, field, ended}
+use Rattle.bits.specs.Bits.{numberFrom, bitAt, bitsAt, wholly, fieldAt}
+use Rattle.bits.specs.Reading.{Got, got, refused, onward, _>>=_, judged, taken, field, ended}
 use Rattle.table.specs.Limits.{limits}
 use Rattle.script.specs.declared.Span.{Span}
 use Rattle.script.specs.Labels.{printable, text, label, labels}

@@ -1,6 +1,6 @@
 -- Slots that are filled one after another: the first of a list, and unused ones after them.
-use mathlib.Core.List.{List, _++_, _∷_}
-use mathlib.Core.Path.{_≡_, refl, sym, ap, _∙_, subst}
+use mathlib.Core.List.{List, _++_}
+use mathlib.Core.Path.{_≡_, sym, ap, _∙_}
 use Prim.Native.Nat.{ℕ, suc, _+_, _-_, _<_, _≤_}
 use native.Mathlib.Omega.{arith}
 use lib.ListN.{length, getD, set, take, drop, replicate, length-drop, length-replicate, getD-replicate, take-append-drop, List·getD-append}

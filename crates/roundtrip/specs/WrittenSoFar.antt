@@ -1,17 +1,15 @@
 -- A table as far as it has been read: its first imports, variables and entries, and unused slots after them.
 use mathlib.Core.Bool.{Bool, true, false, not, _&&_, _||_, cond}
-use mathlib.Core.List.{List, [], _∷_, _++_}
 use mathlib.Core.Logic.{⊎-elim}
-use mathlib.Core.Path.{_≡_, refl, sym, ap, _∙_, subst}
-use Prim.Native.Nat.{ℕ, zero, suc, _+_, _-_, _<_, _≤_}
+use mathlib.Core.Path.{_≡_, refl, sym, ap, subst}
+use Prim.Native.Nat.{ℕ, zero, suc, _<_, _≤_}
 use native.Mathlib.Nat.{not-suc-le-zero, eq-or-lt-of-le, le-of-suc-le-suc}
 use native.Mathlib.Omega.{arith}
 use borrow.Author.Tests.{ltb-true, eqb-true, le-ltb, not-true}
-use lib.Dec.{ltb, eqb}
+use lib.Dec.{ltb}
 use lib.IntN.{ℤ, pos, negsuc}
-use lib.ListN.{length, getD, set}
 use Rattle.values.specs.declared.Number.{Number}
-use Rattle.values.specs.Numbers.{eqZ, inRange}
+use Rattle.values.specs.Numbers.{eqZ}
 use Rattle.refusals.specs.declared.Refusal.{Refusal}
 use Rattle.refusals.specs.declared.Answer.{Answer}
 use Rattle.refusals.specs.Numbering.{unless, andThen}
@@ -24,9 +22,9 @@ use Rattle.table.specs.declared.Table.{Table}
 use Rattle.table.specs.Limits.{limits}
 use Rattle.table.specs.Kinds.{Operand, entry, imported, variable, constant, operandsOf, sortOf, sameSort}
 use Rattle.table.specs.Tables.{Shaped, entryAt, isEvent, importSort, initialOf, zeroConstant, isUndefined, everySlot, unusedSlots}
-use Rattle.table.specs.Faults.{operandFault, operandsFault}
+use Rattle.table.specs.Faults.{operandFault}
 use Rattle.script.specs.Reader.{counted, withEvent, withVariable, withEntry}
-use Rattle.roundtrip.specs.WrittenAnswers.{both-first, both-second}
+use Rattle.roundtrip.specs.WrittenAnswers.{never, both-first, both-second}
 use Rattle.roundtrip.specs.WrittenSlots.{filled, filled-next, filled-same, filled-all}
 use Rattle.roundtrip.specs.WrittenSound.{Limited}
 
@@ -101,10 +99,6 @@ so-far-operand t shape within x k h (imported s i) =
     (so-far-isEvent t shape (t .q) x k i (within .imports) (ltb-true i (t .q) there)))
 so-far-operand t shape within x k h (variable y) = refl
 so-far-operand t shape within x k h (constant z) = refl
-
--- false is not true
-never : {X : Type 0} → false ≡ true → X
-never e = absurd (let z : _≡_ {A = ℕ} 0 1 = cc e in omega arith)
 
 -- of every slot, one
 every-slot : (from n : ℕ) (p : ℕ → Bool) → everySlot from n p ≡ true → (k : ℕ) → from ≤ k → k < n → p k ≡ true

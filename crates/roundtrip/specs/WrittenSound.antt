@@ -32,18 +32,21 @@ pub record Sound (t : Table) : Type 0 where
 limits-sound : (t : Table) → limitsFault t ≡ Answer.Accepted → Limited t × (unusedSlots t ≡ true)
 unfolding limitsFault
 limits-sound t good =
-    let all = unless-accepted (leb 1 (t .n) && leb (t .n) (limits .entries) && leb (t .q) (limits .imports) && leb (t .v) (limits .variables) && unusedSlots t)
-      Refusal.TableLimits good in
-    let four = both-first (leb 1 (t .n) && leb (t .n) (limits .entries) && leb (t .q) (limits .imports) && leb (t .v) (limits .variables)) (unusedSlots t) all in
-    let three = both-first (leb 1 (t .n) && leb (t .n) (limits .entries) && leb (t .q) (limits .imports)) (leb (t .v) (limits .variables)) four in
-    let two = both-first (leb 1 (t .n) && leb (t .n) (limits .entries)) (leb (t .q) (limits .imports)) three in
+    let one = leb 1 (t .n) in
+    let entries = leb (t .n) (limits .entries) in
+    let imports = leb (t .q) (limits .imports) in
+    let variables = leb (t .v) (limits .variables) in
+    let five = unless-accepted (one && entries && imports && variables && unusedSlots t) Refusal.TableLimits good in
+    let four = both-first (one && entries && imports && variables) (unusedSlots t) five in
+    let three = both-first (one && entries && imports) variables four in
+    let two = both-first (one && entries) imports three in
     (record {
-      one = leb-true 1 (t .n) (both-first (leb 1 (t .n)) (leb (t .n) (limits .entries)) two);
-      entries = leb-true (t .n) (limits .entries) (both-second (leb 1 (t .n)) (leb (t .n) (limits .entries)) two);
-      imports = leb-true (t .q) (limits .imports) (both-second (leb 1 (t .n) && leb (t .n) (limits .entries)) (leb (t .q) (limits .imports)) three);
-      variables = leb-true (t .v) (limits .variables) (both-second (leb 1 (t .n) && leb (t .n) (limits .entries) && leb (t .q) (limits .imports)) (leb (t .v) (limits .variables)) four);
+      one = leb-true 1 (t .n) (both-first one entries two);
+      entries = leb-true (t .n) (limits .entries) (both-second one entries two);
+      imports = leb-true (t .q) (limits .imports) (both-second (one && entries) imports three);
+      variables = leb-true (t .v) (limits .variables) (both-second (one && entries && imports) variables four);
     },
-    both-second (leb 1 (t .n) && leb (t .n) (limits .entries) && leb (t .q) (limits .imports) && leb (t .v) (limits .variables)) (unusedSlots t) all)
+    both-second (one && entries && imports && variables) (unusedSlots t) five)
 
 -- a table that is accepted is sound
 pub sound-table : (t : Table) → tableFault t ≡ Answer.Accepted → Sound t

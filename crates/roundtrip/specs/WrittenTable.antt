@@ -1,9 +1,9 @@
 -- The fields of a table, read again: its head, imports, variables and entries one after another.
 use mathlib.Core.Bool.{Bool, true, false, cond}
 use mathlib.Core.List.{List, [], _∷_, _++_}
-use mathlib.Core.Path.{_≡_, refl, sym, ap, _∙_, subst}
-use Prim.Native.Nat.{ℕ, zero, suc, _+_, _*_, _/_, _%_, _-_, _<_, _≤_}
-use native.Mathlib.Nat.{add-zero, zero-add, add-assoc}
+use mathlib.Core.Path.{_≡_, refl, sym, ap, _∙_}
+use Prim.Native.Nat.{ℕ, zero, suc, _+_, _*_, _/_, _<_, _≤_}
+use native.Mathlib.Nat.{add-zero, zero-add}
 use native.Mathlib.Omega.{arith}
 use lib.Dec.{eqb}
 use lib.ListN.{length}
@@ -11,24 +11,23 @@ use Rattle.values.specs.declared.Number.{Number}
 use Rattle.values.specs.Numbers.{inRange}
 use Rattle.refusals.specs.declared.Refusal.{Refusal}
 use Rattle.refusals.specs.declared.Answer.{Answer}
-use Rattle.refusals.specs.Numbering.{unless, andThen}
 use Rattle.bits.specs.declared.Field.{Field}
 use Rattle.bits.specs.Bits.{Part, fieldAt, bitsOfAll, bytesOf, paddingAt}
-use Rattle.bits.specs.Twos.{signed, unsigned}
 use Rattle.bits.specs.Holding.{widthOfAll, Holds}
-use Rattle.bits.specs.Reading.{Got, got, _>>=_, give, padding}
+use Rattle.bits.specs.Reading.{got, _>>=_, give, padding}
 use Rattle.table.specs.declared.Table.{Table}
 use Rattle.table.specs.Limits.{limits}
 use Rattle.table.specs.Kinds.{Operand, operandsOf}
 use Rattle.table.specs.Tables.{Shaped, entryAt, isEvent, initialOf}
-use Rattle.table.specs.Faults.{operandFault, operandsFault, numberFault}
-use Rattle.script.specs.Reader.{counted, withEvent, withVariable, withEntry, starting, header, imports, variables, entry, entries, packedTable}
-use Rattle.script.specs.Writer.{part, joined, headerParts, importParts, numberParts, entryParts, tableParts, scriptBytes}
+use Rattle.table.specs.Faults.{operandsFault, numberFault}
+use Rattle.script.specs.Reader.{withVariable, imports, variables, entries, packedTable}
+use Rattle.script.specs.Writer.{joined, headerParts, importParts, numberParts, entryParts, tableParts}
 use Rattle.bits.specs.Packing.{width-append, holds-first, holds-second, length-packed, packed-holds, packed-padding}
 use Rattle.roundtrip.specs.WrittenAnswers.{unless-accepted}
 use Rattle.roundtrip.specs.WrittenSound.{Limited, Sound}
 use Rattle.roundtrip.specs.WrittenSoFar.{soFar, so-far-import, so-far-variable, so-far-entry, so-far-operand, so-far-all}
-use Rattle.roundtrip.specs.WrittenFitting.{signed-again, table-fits}
+use Rattle.roundtrip.specs.WrittenTwos.{signed-again}
+use Rattle.roundtrip.specs.WrittenFitting.{table-fits}
 use Rattle.roundtrip.specs.WrittenHeld.{header-held, joined-held, joined-next, joined-start}
 use Rattle.roundtrip.specs.WrittenEntries.{entry-held}
 
