@@ -57,12 +57,13 @@ unfolding scriptOf wholeScript scriptBytes blockFault
 script-again t shape block good =
     let front = bytesOf (bitsOfAll (tableParts t)) in
     let count = labelsBefore t (t .n) in
-    let through = went-through ((labels count >>= λ n. ended Refusal.LeftOver) block 0) (8 * length front) t (good .labels) in
-    (through .0,
-    rw (le-ltb (limits .script) (length (front ++ block)) (good .short), packed-again t shape (sound-table t (good .table)) block)
-    (onward-assoc (labels count (front ++ block) (8 * length front)) (λ n next. ended Refusal.LeftOver (front ++ block) next) (λ n next. got t next)
-    ∙ ap (λ (end : Got ℕ). onward end (λ n next. got t next)) (block-moved front block count)
-    ∙ through .1))
+    let through = went-through ((labels count >>= λ n. ended Refusal.LeftOver) block 0) (8 * length front) t (good .labels) in (
+      through .0,
+      rw (le-ltb (limits .script) (length (front ++ block)) (good .short), packed-again t shape (sound-table t (good .table)) block)
+          (onward-assoc (labels count (front ++ block) (8 * length front)) (λ n next. ended Refusal.LeftOver (front ++ block) next) (λ n next. got t next)
+          ∙ ap (λ (end : Got ℕ). onward end (λ n next. got t next)) (block-moved front block count)
+          ∙ through .1),
+    )
 
 -- the same table
 pub table-again : (t : Table) → Shaped t → (block : List ℕ) (room : ℕ) → writerFault t block room ≡ Answer.Accepted

@@ -58,7 +58,7 @@ module _ (t : Table) (k : ℕ) (s : List ℕ) (at : ℕ) where
       → Holds s at (part 5 kind ∷ part (widthOf (o 0)) a ∷ part (widthOf (p 0)) b ∷ part (widthOf (r 0)) c ∷ [])
       → andThen (operandFault t k (o a)) (andThen (operandFault t k (p b)) (andThen (operandFault t k (r c)) Answer.Accepted)) ≡ Answer.Accepted
       → entry t k s at
-        ≡ got (make a b c) (at + widthOfAll (part 5 kind ∷ part (widthOf (o 0)) a ∷ part (widthOf (p 0)) b ∷ part (widthOf (r 0)) c ∷ []))
+      ≡ got (make a b c) (at + widthOfAll (part 5 kind ∷ part (widthOf (o 0)) a ∷ part (widthOf (p 0)) b ∷ part (widthOf (r 0)) c ∷ []))
   unfolding Holds widthOfAll entry operand
   three-row kind o p r make a b c known is held good =
       let last = andThen (operandFault t k (r c)) Answer.Accepted in

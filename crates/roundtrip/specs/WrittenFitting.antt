@@ -91,11 +91,13 @@ module _ (t : Table) (within : Limited t) where
   unfolding Fitting entryParts
   entry-fits k h e good = (omega arith, (omega (arith, kind-lt e), operands-fit k h (operandsOf e) good))
 
+  -- the counts
   header-fits : Fitting (headerParts t)
   unfolding Fitting headerParts
   header-fits =
       (omega arith, (omega arith, (omega arith, (omega arith, (omega arith, (omega arith, (omega arith, (omega arith, (omega arith, (omega arith, tt))))))))))
 
+-- an import is one bit
 import-fits : (t : Table) (i : ℕ) → Fitting (importParts t i)
 unfolding Fitting importParts
 import-fits t i = (omega arith, (bit (isEvent t i), tt))
@@ -104,6 +106,7 @@ import-fits t i = (omega arith, (bit (isEvent t i), tt))
     bit true = omega arith
     bit false = omega arith
 
+-- a variable's start
 number-fits : (y : Number) → numberFault y ≡ Answer.Accepted → Fitting (numberParts y)
 unfolding Fitting numberFault
 number-fits Number.Undefined good = (omega arith, (omega arith, (omega arith, (omega arith, tt))))
@@ -117,4 +120,5 @@ table-fits t sound =
     (fitting-append (joined (t .q) (importParts t)) _ (fitting-joined (t .q) (importParts t) (λ i h. import-fits t i))
     (fitting-append (joined (t .v) (λ x. numberParts (initialOf t x))) _
     (fitting-joined (t .v) (λ x. numberParts (initialOf t x)) (λ x h. number-fits (initialOf t x) (sound .numbers x h)))
-    (fitting-joined (t .n) (λ k. entryParts (entryAt t k)) (λ k h. entry-fits t (sound .within) k (omega (arith, sound .within .entries)) (entryAt t k) (sound .operands k h)))))
+    (fitting-joined (t .n) (λ k. entryParts (entryAt t k))
+    (λ k h. entry-fits t (sound .within) k (omega (arith, sound .within .entries)) (entryAt t k) (sound .operands k h)))))

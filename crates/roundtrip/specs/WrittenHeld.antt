@@ -1,4 +1,4 @@
--- Readers over bytes that hold what they look for.
+-- Bytes that hold a table's head, or lists of fields one after another.
 use mathlib.Core.List.{List}
 use mathlib.Core.Logic.{⊎-elim}
 use mathlib.Core.Path.{_≡_, sym, ap, subst}
@@ -20,26 +20,38 @@ pub header-held : (t : Table) → Limited t → (s : List ℕ) (at : ℕ) → Ho
     → header s at ≡ got (counted (t .n) (t .q) (t .v)) (at + widthOfAll (headerParts t))
 unfolding header headerParts Holds widthOfAll
 header-held t within s at h =
-    rw (h .0, h .1 .0, le-leb 1 (t .n) (within .one), le-leb (t .n) 128 (within .entries), h .1 .1 .0, le-leb (t .q) 48 (within .imports), h .1 .1 .1 .0,
-    le-leb (t .v) 32 (within .variables), h .1 .1 .1 .1 .0)
+    rw (
+      h .0,
+      h .1 .0,
+      le-leb 1 (t .n) (within .one),
+      le-leb (t .n) 128 (within .entries),
+      h .1 .1 .0,
+      le-leb (t .q) 48 (within .imports),
+      h .1 .1 .1 .0,
+      le-leb (t .v) 32 (within .variables),
+      h .1 .1 .1 .1 .0,
+    )
     (ap (got (counted (t .n) (t .q) (t .v))) (omega arith))
 
--- where list i of joined lists begins, and what stands there
-pub joined-held : (s : List ℕ) (at n : ℕ) (f : ℕ → List Part) → Holds s at (joined n f) → (i : ℕ) → i < n
-    → Holds s (at + widthOfAll (joined i f)) (f i)
-unfolding joined
-joined-held s at zero f h i b = absurd (not-suc-le-zero b)
-joined-held s at (suc n) f h i b =
-    ⊎-elim (λ last. subst (λ (j : ℕ). Holds s (at + widthOfAll (joined j f)) (f j)) (sym last) (holds-second s at (joined n f) (f n) h))
-    (λ before. joined-held s at n f (holds-first s at (joined n f) (f n) h) i before)
-    (eq-or-lt-of-le (le-of-suc-le-suc b))
+-- where list i of lists that are joined from bit `at` on begins
+abbrev pub beginsAt : ℕ → (ℕ → List Part) → ℕ → ℕ
+beginsAt at f i = at + widthOfAll (joined i f)
 
--- where the list after it begins
-pub joined-next : (at : ℕ) (f : ℕ → List Part) (i : ℕ) → at + widthOfAll (joined (suc i) f) ≡ at + widthOfAll (joined i f) + widthOfAll (f i)
+-- list 0 begins where they all do
+pub joined-start : (at : ℕ) (f : ℕ → List Part) → at ≡ beginsAt at f 0
+unfolding joined widthOfAll
+joined-start at f = sym (add-zero at)
+
+-- each begins where the one before it ends
+pub joined-next : (at : ℕ) (f : ℕ → List Part) (i : ℕ) → beginsAt at f (suc i) ≡ beginsAt at f i + widthOfAll (f i)
 unfolding joined
 joined-next at f i = rw (width-append (joined i f) (f i)) (omega arith)
 
--- where the first list begins
-pub joined-start : (at : ℕ) (f : ℕ → List Part) → at ≡ at + widthOfAll (joined 0 f)
-unfolding joined widthOfAll
-joined-start at f = sym (add-zero at)
+-- and stands there
+pub joined-held : (s : List ℕ) (at n : ℕ) (f : ℕ → List Part) → Holds s at (joined n f) → (i : ℕ) → i < n → Holds s (beginsAt at f i) (f i)
+unfolding joined
+joined-held s at zero f h i b = absurd (not-suc-le-zero b)
+joined-held s at (suc n) f h i b =
+    ⊎-elim (λ last. subst (λ (j : ℕ). Holds s (beginsAt at f j) (f j)) (sym last) (holds-second s at (joined n f) (f n) h))
+    (λ before. joined-held s at n f (holds-first s at (joined n f) (f n) h) i before)
+    (eq-or-lt-of-le (le-of-suc-le-suc b))

@@ -62,6 +62,10 @@ onward-moved : {A B : Type 0} (f : A → A) (g : B → B) (far : ℕ) (first : G
 onward-moved f g far (got a next) then after each = each a next
 onward-moved f g far (refused r) then after each = refl
 
+-- the length of a label is judged
+abbrev labelSize : ℕ → Answer
+labelSize size = unless (leb size (limits .label)) Refusal.Label
+
 module _ (front s : List ℕ) where
   -- a bit that stands so many whole bytes further on
   bit-after : (at : ℕ) → bitAt (front ++ s) (8 * length front + at) ≡ bitAt s at
@@ -71,18 +75,19 @@ module _ (front s : List ℕ) where
       let place : (8 * length front + at) % 8 ≡ at % 8 = omega arith in
       rw (byte, place, getD-append-add front s (at / 8) 0)
 
-  -- so does the number that bits make
+  -- the number that bits make
   bits-after : (at w : ℕ) → bitsAt (front ++ s) (8 * length front + at) w ≡ bitsAt s at w
   unfolding bitsAt numberFrom
   bits-after at zero = refl
   bits-after at (suc w) = rw (bits-after at w, add-assoc (8 * length front) at w, bit-after (at + w))
 
-  -- it ends within the bytes if it does by itself
+  -- whether a field ends within the bytes
   wholly-after : (at w : ℕ) → wholly (front ++ s) (8 * length front + at) w ≡ wholly s at w
   wholly-after at w =
       same-test (wholly (front ++ s) (8 * length front + at) w) (wholly s at w)
-      (λ inside. le-leb (at + w) (8 * length s) (omega (arith, leb-true (8 * length front + at + w) (8 * length (front ++ s)) inside, length-append front s)))
-      (λ inside. le-leb (8 * length front + at + w) (8 * length (front ++ s)) (omega (arith, leb-true (at + w) (8 * length s) inside, length-append front s)))
+      (λ there. le-leb (at + w) (8 * length s)
+      (omega (arith, leb-true (8 * length front + at + w) (8 * length (front ++ s)) there, length-append front s)))
+      (λ here. le-leb (8 * length front + at + w) (8 * length (front ++ s)) (omega (arith, leb-true (at + w) (8 * length s) here, length-append front s)))
 
   -- a field
   pub field-after : (at w : ℕ) → fieldAt (front ++ s) (8 * length front + at) w ≡ fieldAt s at w
@@ -109,9 +114,9 @@ module _ (front s : List ℕ) where
   pub label-after : (at : ℕ) → label (front ++ s) (8 * length front + at) ≡ moved (spanAfter (length front)) (8 * length front) (label s at)
   unfolding label
   label-after at =
-      ap (λ (size : Got ℕ). onward size (λ n next. text n (front ++ s) next)) (judged-after Refusal.Cut 8 (λ size. unless (leb size (limits .label)) Refusal.Label) at)
-      ∙ onward-moved same (spanAfter (length front)) (8 * length front) (field Refusal.Cut 8 (λ size. unless (leb size (limits .label)) Refusal.Label) s at) (λ n next. text n s next)
-        (λ n next. text n (front ++ s) next) text-after
+      ap (λ (size : Got ℕ). onward size (λ n next. text n (front ++ s) next)) (judged-after Refusal.Cut 8 labelSize at)
+      ∙ onward-moved same (spanAfter (length front)) (8 * length front) (field Refusal.Cut 8 labelSize s at)
+      (λ n next. text n s next) (λ n next. text n (front ++ s) next) text-after
 
   -- as many labels
   pub labels-after : (count at : ℕ) → labels count (front ++ s) (8 * length front + at) ≡ moved same (8 * length front) (labels count s at)
@@ -120,29 +125,29 @@ module _ (front s : List ℕ) where
   labels-after (suc count) at =
       ap (λ (span : Got Span). onward span (λ part next. labels count (front ++ s) next)) (label-after at)
       ∙ onward-moved (spanAfter (length front)) same (8 * length front) (label s at) (λ part next. labels count s next)
-        (λ part next. labels count (front ++ s) next) (λ part next. labels-after count next)
+      (λ part next. labels count (front ++ s) next) (λ part next. labels-after count next)
 
   -- and nothing after them
   ended-after : (at : ℕ) → ended Refusal.LeftOver (front ++ s) (8 * length front + at) ≡ moved same (8 * length front) (ended Refusal.LeftOver s at)
   ended-after at =
       let end : eqb (8 * length front + at) (8 * length (front ++ s)) ≡ eqb at (8 * length s) =
-        same-test (eqb (8 * length front + at) (8 * length (front ++ s))) (eqb at (8 * length s))
-        (λ there. eq-eqb at (8 * length s) (omega (arith, eqb-true (8 * length front + at) (8 * length (front ++ s)) there, length-append front s)))
-        (λ here. eq-eqb (8 * length front + at) (8 * length (front ++ s)) (omega (arith, eqb-true at (8 * length s) here, length-append front s))) in
+      same-test (eqb (8 * length front + at) (8 * length (front ++ s))) (eqb at (8 * length s))
+      (λ there. eq-eqb at (8 * length s) (omega (arith, eqb-true (8 * length front + at) (8 * length (front ++ s)) there, length-append front s)))
+      (λ here. eq-eqb (8 * length front + at) (8 * length (front ++ s)) (omega (arith, eqb-true at (8 * length s) here, length-append front s))) in
       rw end (judged-moved same (8 * length front) (unless (eqb at (8 * length s)) Refusal.LeftOver) 0 at)
 
   -- labels from a bit on, and nothing after them
   block-after : (count at : ℕ)
       → (labels count >>= λ n. ended Refusal.LeftOver) (front ++ s) (8 * length front + at)
-        ≡ moved same (8 * length front) ((labels count >>= λ n. ended Refusal.LeftOver) s at)
+      ≡ moved same (8 * length front) ((labels count >>= λ n. ended Refusal.LeftOver) s at)
   block-after count at =
       ap (λ (n : Got ℕ). onward n (λ m next. ended Refusal.LeftOver (front ++ s) next)) (labels-after count at)
       ∙ onward-moved same same (8 * length front) (labels count s at) (λ m next. ended Refusal.LeftOver s next)
-        (λ m next. ended Refusal.LeftOver (front ++ s) next) (λ m next. ended-after next)
+      (λ m next. ended Refusal.LeftOver (front ++ s) next) (λ m next. ended-after next)
 
   -- "For each alarm and property entry, in order: [a label]. Nothing follows."
   pub block-moved : (count : ℕ)
       → (labels count >>= λ n. ended Refusal.LeftOver) (front ++ s) (8 * length front)
-        ≡ moved same (8 * length front) ((labels count >>= λ n. ended Refusal.LeftOver) s 0)
+      ≡ moved same (8 * length front) ((labels count >>= λ n. ended Refusal.LeftOver) s 0)
   block-moved count =
       ap (λ (at : ℕ). (labels count >>= λ n. ended Refusal.LeftOver) (front ++ s) at) (sym (add-zero (8 * length front))) ∙ block-after count 0

@@ -29,7 +29,7 @@ module _ {A : Type 0} (size : ℕ) (unused : A) where
   pub filled-all : (l : List A) (n : ℕ) (d : A) → length l ≡ size → ((i : ℕ) → n ≤ i → i < size → getD l i d ≡ unused) → filled n l ≡ l
   filled-all l n d long rest =
       let same : drop n l ≡ replicate (size - n) unused = ext-getD d (drop n l) (replicate (size - n) unused)
-        (length-drop n l ∙ ap (λ (k : ℕ). k - n) long ∙ sym (length-replicate (size - n) unused))
-        (λ i b. getD-drop n l i d ∙ rest (n + i) (omega arith) (omega (arith, length-drop n l))
-          ∙ sym (getD-replicate (size - n) i unused d (omega (arith, length-drop n l)))) in
+      (length-drop n l ∙ ap (λ (k : ℕ). k - n) long ∙ sym (length-replicate (size - n) unused))
+      (λ i b. getD-drop n l i d ∙ rest (n + i) (omega arith) (omega (arith, length-drop n l))
+      ∙ sym (getD-replicate (size - n) i unused d (omega (arith, length-drop n l)))) in
       ap (λ (r : List A). take n l ++ r) (sym same) ∙ take-append-drop n l

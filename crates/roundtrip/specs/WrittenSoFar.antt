@@ -23,7 +23,7 @@ use Rattle.table.specs.Limits.{limits}
 use Rattle.table.specs.Kinds.{Operand, entry, imported, variable, constant, operandsOf, sortOf, sameSort}
 use Rattle.table.specs.Tables.{Shaped, entryAt, isEvent, importSort, initialOf, zeroConstant, isUndefined, everySlot, unusedSlots}
 use Rattle.table.specs.Faults.{operandFault}
-use Rattle.script.specs.Reader.{counted, withEvent, withVariable, withEntry}
+use Rattle.script.specs.Reader.{withEvent, withVariable, withEntry}
 use Rattle.roundtrip.specs.WrittenAnswers.{never, both-first, both-second}
 use Rattle.roundtrip.specs.WrittenSlots.{filled, filled-next, filled-same, filled-all}
 use Rattle.roundtrip.specs.WrittenSound.{Limited}
@@ -46,10 +46,6 @@ soFar t i x k =
       variables = filled (limits .variables) noNumber x (t .variables);
       entries = filled (limits .slots) noEntry k (t .entries);
     }
-
--- nothing but the counts
-pub so-far-none : (t : Table) → soFar t 0 0 0 ≡ counted (t .n) (t .q) (t .v)
-so-far-none t = refl
 
 -- one more import
 pub so-far-import : (t : Table) → Shaped t → (i x k : ℕ) → i < limits .imports → withEvent (soFar t i x k) i (isEvent t i) ≡ soFar t (suc i) x k
@@ -106,7 +102,7 @@ unfolding everySlot
 every-slot from zero p all k low high = absurd (not-suc-le-zero high)
 every-slot from (suc n) p all k low high =
     ⊎-elim (λ last. subst (λ (j : ℕ). p j ≡ true) (sym last)
-      (rw (le-ltb n from (omega arith)) at (both-second (everySlot from n p) (ltb n from || p n) all)))
+    (rw (le-ltb n from (omega arith)) at (both-second (everySlot from n p) (ltb n from || p n) all)))
     (λ before. every-slot from n p (both-first (everySlot from n p) (ltb n from || p n) all) k low before)
     (eq-or-lt-of-le (le-of-suc-le-suc high))
 
@@ -149,7 +145,7 @@ undefined-number : (y : Number) → isUndefined y ≡ true → y ≡ Number.Unde
 undefined-number Number.Undefined unused = refl
 undefined-number (Number.Whole z) unused = never unused
 
--- a table whose unused slots are as they should be
+-- unused slots as they should be
 record Unused (t : Table) : Type 0 where
   entries : (k : ℕ) → t .n ≤ k → k < limits .slots → entryAt t k ≡ Constant (pos 0)
   events : (i : ℕ) → t .q ≤ i → i < limits .imports → isEvent t i ≡ false
@@ -165,7 +161,8 @@ unused-slots t unused =
     record {
       entries = λ k low high. zero-entry (entryAt t k) (every-slot (t .n) (limits .slots) _ (both-first entries events two) k low high);
       events = λ i low high. not-true (isEvent t i) (every-slot (t .q) (limits .imports) _ (both-second entries events two) i low high);
-      variables = λ x low high. undefined-number (initialOf t x) (every-slot (t .v) (limits .variables) _ (both-second (entries && events) variables unused) x low high);
+      variables = λ x low high.
+          undefined-number (initialOf t x) (every-slot (t .v) (limits .variables) _ (both-second (entries && events) variables unused) x low high);
     }
 
 -- once every count is reached, all of the table was read
@@ -173,8 +170,10 @@ pub so-far-all : (t : Table) → Shaped t → unusedSlots t ≡ true → soFar t
 unfolding entryAt isEvent initialOf
 so-far-all t shape unused =
     let slots = unused-slots t unused in
-    rw (filled-all (limits .imports) false (t .events) (t .q) false (shape .events) (slots .events),
-    filled-all (limits .variables) noNumber (t .variables) (t .v) noNumber (shape .variables)
-      (λ x low high. ap (λ (y : Number). record { number = y }) (slots .variables x low high)),
-    filled-all (limits .slots) noEntry (t .entries) (t .n) (record { entry = Entry.ImportedCondition 0 }) (shape .entries)
-      (λ k low high. ap (λ (e : Entry). record { entry = e }) (slots .entries k low high)))
+    rw (
+      filled-all (limits .imports) false (t .events) (t .q) false (shape .events) (slots .events),
+      filled-all (limits .variables) noNumber (t .variables) (t .v) noNumber (shape .variables)
+          (λ x low high. ap (λ (y : Number). record { number = y }) (slots .variables x low high)),
+      filled-all (limits .slots) noEntry (t .entries) (t .n) (record { entry = Entry.ImportedCondition 0 }) (shape .entries)
+          (λ k low high. ap (λ (e : Entry). record { entry = e }) (slots .entries k low high)),
+    )

@@ -39,14 +39,15 @@ limits-sound t good =
     let five = unless-accepted (one && entries && imports && variables && unusedSlots t) Refusal.TableLimits good in
     let four = both-first (one && entries && imports && variables) (unusedSlots t) five in
     let three = both-first (one && entries && imports) variables four in
-    let two = both-first (one && entries) imports three in
-    (record {
-      one = leb-true 1 (t .n) (both-first one entries two);
-      entries = leb-true (t .n) (limits .entries) (both-second one entries two);
-      imports = leb-true (t .q) (limits .imports) (both-second (one && entries) imports three);
-      variables = leb-true (t .v) (limits .variables) (both-second (one && entries && imports) variables four);
-    },
-    both-second (one && entries && imports && variables) (unusedSlots t) five)
+    let two = both-first (one && entries) imports three in (
+      record {
+        one = leb-true 1 (t .n) (both-first one entries two);
+        entries = leb-true (t .n) (limits .entries) (both-second one entries two);
+        imports = leb-true (t .q) (limits .imports) (both-second (one && entries) imports three);
+        variables = leb-true (t .v) (limits .variables) (both-second (one && entries && imports) variables four);
+      },
+      both-second (one && entries && imports && variables) (unusedSlots t) five,
+    )
 
 -- a table that is accepted is sound
 pub sound-table : (t : Table) → tableFault t ≡ Answer.Accepted → Sound t

@@ -28,7 +28,7 @@ use Rattle.roundtrip.specs.WrittenSound.{Limited, Sound}
 use Rattle.roundtrip.specs.WrittenSoFar.{soFar, so-far-import, so-far-variable, so-far-entry, so-far-operand, so-far-all}
 use Rattle.roundtrip.specs.WrittenTwos.{signed-again}
 use Rattle.roundtrip.specs.WrittenFitting.{table-fits}
-use Rattle.roundtrip.specs.WrittenHeld.{header-held, joined-held, joined-next, joined-start}
+use Rattle.roundtrip.specs.WrittenHeld.{header-held, beginsAt, joined-held, joined-next, joined-start}
 use Rattle.roundtrip.specs.WrittenEntries.{entry-held}
 
 -- one bit that says whether an import is an event
@@ -53,73 +53,91 @@ slotParts t k = entryParts (entryAt t k)
 module _ (t : Table) (shape : Shaped t) (sound : Sound t) (s : List ℕ) (at : ℕ) where
   -- one import, and the others
   import-held : Holds s at (joined (t .q) (importParts t)) → (left i : ℕ) → i < t .q
-      → imports (suc left) i (soFar t i 0 0) s (at + widthOfAll (joined i (importParts t))) ≡ imports left (suc i) (soFar t (suc i) 0 0) s (at + widthOfAll (joined (suc i) (importParts t)))
+      → imports (suc left) i (soFar t i 0 0) s (beginsAt at (importParts t) i)
+      ≡ imports left (suc i) (soFar t (suc i) 0 0) s (beginsAt at (importParts t) (suc i))
   unfolding imports Holds importParts widthOfAll
   import-held held left i h =
-      rw (joined-held s at (t .q) (importParts t) held i h .0, bit-again (isEvent t i), joined-next at (importParts t) i,
-      so-far-import t shape i 0 0 (omega (arith, sound .within .imports)))
+      rw (
+        joined-held s at (t .q) (importParts t) held i h .0,
+        bit-again (isEvent t i),
+        joined-next at (importParts t) i,
+        so-far-import t shape i 0 0 (omega (arith, sound .within .imports)),
+      )
 
   imports-held : Holds s at (joined (t .q) (importParts t)) → (left i : ℕ) → i + left ≡ t .q
-      → imports left i (soFar t i 0 0) s (at + widthOfAll (joined i (importParts t))) ≡ got (soFar t (t .q) 0 0) (at + widthOfAll (joined (t .q) (importParts t)))
+      → imports left i (soFar t i 0 0) s (beginsAt at (importParts t) i)
+      ≡ got (soFar t (t .q) 0 0) (beginsAt at (importParts t) (t .q))
   unfolding imports
-  imports-held held zero i all = ap (λ (j : ℕ). got (soFar t j 0 0) (at + widthOfAll (joined j (importParts t)))) (sym (add-zero i) ∙ all)
+  imports-held held zero i all = ap (λ (j : ℕ). got (soFar t j 0 0) (beginsAt at (importParts t) j)) (sym (add-zero i) ∙ all)
   imports-held held (suc left) i more = import-held held left i (omega arith) ∙ imports-held held left (suc i) (omega arith)
 
   -- one variable, whatever it starts with, and the others
   number-held : (y : Number) → numberFault y ≡ Answer.Accepted → (left x here : ℕ) (so : Table) → Holds s here (numberParts y)
       → variables (suc left) x so s here ≡ variables left (suc x) (withVariable so x y) s (here + widthOfAll (numberParts y))
   unfolding variables Holds widthOfAll numberFault
-  number-held Number.Undefined good left x here so held = rw (held .0, held .1 .0) (ap (variables left (suc x) (withVariable so x Number.Undefined) s) (omega arith))
+  number-held Number.Undefined good left x here so held =
+      rw (held .0, held .1 .0)
+      (ap (variables left (suc x) (withVariable so x Number.Undefined) s) (omega arith))
   number-held (Number.Whole z) good left x here so held =
       rw (held .0, held .1 .0, signed-again z (unless-accepted (inRange z) Refusal.Range good))
       (ap (variables left (suc x) (withVariable so x (Number.Whole z)) s) (omega arith))
 
   variable-held : Holds s at (joined (t .v) (startParts t)) → (left x : ℕ) → x < t .v
-      → variables (suc left) x (soFar t (t .q) x 0) s (at + widthOfAll (joined x (startParts t))) ≡ variables left (suc x) (soFar t (t .q) (suc x) 0) s (at + widthOfAll (joined (suc x) (startParts t)))
+      → variables (suc left) x (soFar t (t .q) x 0) s (beginsAt at (startParts t) x)
+      ≡ variables left (suc x) (soFar t (t .q) (suc x) 0) s (beginsAt at (startParts t) (suc x))
   variable-held held left x h =
-      number-held (initialOf t x) (sound .numbers x h) left x (at + widthOfAll (joined x (startParts t))) (soFar t (t .q) x 0) (joined-held s at (t .v) (startParts t) held x h)
+      number-held (initialOf t x) (sound .numbers x h) left x (beginsAt at (startParts t) x) (soFar t (t .q) x 0)
+      (joined-held s at (t .v) (startParts t) held x h)
       ∙ rw (so-far-variable t shape (t .q) x 0 (omega (arith, sound .within .variables)), joined-next at (startParts t) x)
 
   variables-held : Holds s at (joined (t .v) (startParts t)) → (left x : ℕ) → x + left ≡ t .v
-      → variables left x (soFar t (t .q) x 0) s (at + widthOfAll (joined x (startParts t))) ≡ got (soFar t (t .q) (t .v) 0) (at + widthOfAll (joined (t .v) (startParts t)))
+      → variables left x (soFar t (t .q) x 0) s (beginsAt at (startParts t) x)
+      ≡ got (soFar t (t .q) (t .v) 0) (beginsAt at (startParts t) (t .v))
   unfolding variables
-  variables-held held zero x all = ap (λ (y : ℕ). got (soFar t (t .q) y 0) (at + widthOfAll (joined y (startParts t)))) (sym (add-zero x) ∙ all)
+  variables-held held zero x all = ap (λ (y : ℕ). got (soFar t (t .q) y 0) (beginsAt at (startParts t) y)) (sym (add-zero x) ∙ all)
   variables-held held (suc left) x more = variable-held held left x (omega arith) ∙ variables-held held left (suc x) (omega arith)
 
   -- one entry, and the others
   entry-next : Holds s at (joined (t .n) (slotParts t)) → (left k : ℕ) → k < t .n
-      → entries (suc left) k (soFar t (t .q) (t .v) k) s (at + widthOfAll (joined k (slotParts t))) ≡ entries left (suc k) (soFar t (t .q) (t .v) (suc k)) s (at + widthOfAll (joined (suc k) (slotParts t)))
+      → entries (suc left) k (soFar t (t .q) (t .v) k) s (beginsAt at (slotParts t) k)
+      ≡ entries left (suc k) (soFar t (t .q) (t .v) (suc k)) s (beginsAt at (slotParts t) (suc k))
   unfolding entries
   entry-next held left k h =
-      let good = so-far-operands t shape (sound .within) (t .v) k (omega (arith, sound .within .entries)) (operandsOf (entryAt t k)) ∙ sound .operands k h in
-      rw (entry-held (soFar t (t .q) (t .v) k) k s (at + widthOfAll (joined k (slotParts t))) (entryAt t k) (joined-held s at (t .n) (slotParts t) held k h) good,
-      so-far-entry t shape (t .q) (t .v) k (omega (arith, sound .within .entries)), joined-next at (slotParts t) k)
+      let e = entryAt t k in
+      let good = so-far-operands t shape (sound .within) (t .v) k (omega (arith, sound .within .entries)) (operandsOf e) ∙ sound .operands k h in
+      rw (
+        entry-held (soFar t (t .q) (t .v) k) k s (beginsAt at (slotParts t) k) e (joined-held s at (t .n) (slotParts t) held k h) good,
+        so-far-entry t shape (t .q) (t .v) k (omega (arith, sound .within .entries)),
+        joined-next at (slotParts t) k,
+      )
 
   entries-held : Holds s at (joined (t .n) (slotParts t)) → (left k : ℕ) → k + left ≡ t .n
-      → entries left k (soFar t (t .q) (t .v) k) s (at + widthOfAll (joined k (slotParts t))) ≡ got (soFar t (t .q) (t .v) (t .n)) (at + widthOfAll (joined (t .n) (slotParts t)))
+      → entries left k (soFar t (t .q) (t .v) k) s (beginsAt at (slotParts t) k)
+      ≡ got (soFar t (t .q) (t .v) (t .n)) (beginsAt at (slotParts t) (t .n))
   unfolding entries
-  entries-held held zero k all = ap (λ (j : ℕ). got (soFar t (t .q) (t .v) j) (at + widthOfAll (joined j (slotParts t)))) (sym (add-zero k) ∙ all)
+  entries-held held zero k all = ap (λ (j : ℕ). got (soFar t (t .q) (t .v) j) (beginsAt at (slotParts t) j)) (sym (add-zero k) ∙ all)
   entries-held held (suc left) k more = entry-next held left k (omega arith) ∙ entries-held held left (suc k) (omega arith)
 
   -- all imports, all variables, all entries
-  all-imports : Holds s at (joined (t .q) (importParts t)) → imports (t .q) 0 (soFar t 0 0 0) s at ≡ got (soFar t (t .q) 0 0) (at + widthOfAll (joined (t .q) (importParts t)))
+  all-imports : Holds s at (joined (t .q) (importParts t))
+      → imports (t .q) 0 (soFar t 0 0 0) s at ≡ got (soFar t (t .q) 0 0) (beginsAt at (importParts t) (t .q))
   all-imports held = ap (imports (t .q) 0 (soFar t 0 0 0) s) (joined-start at (importParts t)) ∙ imports-held held (t .q) 0 (zero-add (t .q))
 
   all-variables : Holds s at (joined (t .v) (startParts t))
-      → variables (t .v) 0 (soFar t (t .q) 0 0) s at ≡ got (soFar t (t .q) (t .v) 0) (at + widthOfAll (joined (t .v) (startParts t)))
+      → variables (t .v) 0 (soFar t (t .q) 0 0) s at ≡ got (soFar t (t .q) (t .v) 0) (beginsAt at (startParts t) (t .v))
   all-variables held =
       ap (variables (t .v) 0 (soFar t (t .q) 0 0) s) (joined-start at (startParts t)) ∙ variables-held held (t .v) 0 (zero-add (t .v))
 
   all-entries : Holds s at (joined (t .n) (slotParts t))
-      → entries (t .n) 0 (soFar t (t .q) (t .v) 0) s at ≡ got t (at + widthOfAll (joined (t .n) (slotParts t)))
+      → entries (t .n) 0 (soFar t (t .q) (t .v) 0) s at ≡ got t (beginsAt at (slotParts t) (t .n))
   all-entries held =
       ap (entries (t .n) 0 (soFar t (t .q) (t .v) 0) s) (joined-start at (slotParts t)) ∙ entries-held held (t .n) 0 (zero-add (t .n))
-      ∙ ap (λ (u : Table). got u (at + widthOfAll (joined (t .n) (slotParts t)))) (so-far-all t shape (sound .unused))
+      ∙ ap (λ (u : Table). got u (beginsAt at (slotParts t) (t .n))) (so-far-all t shape (sound .unused))
 
 -- how wide all the fields are
 table-wide : (t : Table) → widthOfAll (tableParts t)
     ≡ 0 + widthOfAll (headerParts t) + widthOfAll (joined (t .q) (importParts t)) + widthOfAll (joined (t .v) (startParts t))
-      + widthOfAll (joined (t .n) (slotParts t))
+    + widthOfAll (joined (t .n) (slotParts t))
 unfolding tableParts
 table-wide t = simp width-append (omega arith)
 
@@ -142,10 +160,13 @@ table-held t shape sound s held zeros =
     let afterVariables = afterImports + widthOfAll variableFields in
     let imports = holds-second s 0 (headerParts t) (importFields ++ (variableFields ++ entryFields)) held in
     let variables = holds-second s afterHead importFields (variableFields ++ entryFields) imports in
-    rw (header-held t (sound .within) s 0 (holds-first s 0 (headerParts t) (importFields ++ (variableFields ++ entryFields)) held),
-    all-imports t shape sound s afterHead (holds-first s afterHead importFields (variableFields ++ entryFields) imports),
-    all-variables t shape sound s afterImports (holds-first s afterImports variableFields entryFields variables),
-    all-entries t shape sound s afterVariables (holds-second s afterImports variableFields entryFields variables), ← table-wide t)
+    rw (
+      header-held t (sound .within) s 0 (holds-first s 0 (headerParts t) (importFields ++ (variableFields ++ entryFields)) held),
+      all-imports t shape sound s afterHead (holds-first s afterHead importFields (variableFields ++ entryFields) imports),
+      all-variables t shape sound s afterImports (holds-first s afterImports variableFields entryFields variables),
+      all-entries t shape sound s afterVariables (holds-second s afterImports variableFields entryFields variables),
+      ← table-wide t,
+    )
     (padding-held s (widthOfAll (tableParts t)) t zeros)
 
 -- zero bits bring a width to as many whole bytes as it takes
