@@ -1,0 +1,50 @@
+-- What an accepted answer says of its parts.
+use mathlib.Core.Bool.{Bool, true, false, _&&_}
+use mathlib.Core.Logic.{⊎-elim}
+use mathlib.Core.Path.{_≡_, refl, sym, subst}
+use Prim.Native.Nat.{ℕ, zero, suc, _<_}
+use native.Mathlib.Nat.{not-suc-le-zero, eq-or-lt-of-le, le-of-suc-le-suc}
+use native.Mathlib.Omega.{arith}
+use Rattle.refusals.specs.declared.Refusal.{Refusal}
+use Rattle.refusals.specs.declared.Answer.{Answer}
+use Rattle.refusals.specs.Numbering.{unless, andThen, firstFault}
+
+-- false is not true
+pub never : {X : Type 0} → false ≡ true → X
+never e = absurd (let z : _≡_ {A = ℕ} 0 1 = cc e in omega arith)
+
+-- a refusal is no acceptance
+pub not-accepted : {X : Type 0} (r : Refusal) → Answer.Refused r ≡ Answer.Accepted → X
+not-accepted r e = absurd (let z : _≡_ {A = ℕ} 0 1 = cc e in omega arith)
+
+-- what is tested holds
+pub unless-accepted : (b : Bool) (r : Refusal) → unless b r ≡ Answer.Accepted → b ≡ true
+unless-accepted true r e = refl
+unless-accepted false r e = not-accepted r e
+
+-- the first of two is accepted, and the second
+pub accepted-first : (a b : Answer) → andThen a b ≡ Answer.Accepted → a ≡ Answer.Accepted
+accepted-first Answer.Accepted b e = refl
+accepted-first (Answer.Refused r) b e = e
+
+pub accepted-second : (a b : Answer) → andThen a b ≡ Answer.Accepted → b ≡ Answer.Accepted
+accepted-second Answer.Accepted b e = e
+accepted-second (Answer.Refused r) b e = not-accepted r e
+
+-- without a first fault there is none
+pub none-at-fault : (n : ℕ) (f : ℕ → Answer) → firstFault n f ≡ Answer.Accepted → (i : ℕ) → i < n → f i ≡ Answer.Accepted
+unfolding firstFault
+none-at-fault zero f e i h = absurd (not-suc-le-zero h)
+none-at-fault (suc n) f e i h =
+    ⊎-elim (λ last. subst (λ (j : ℕ). f j ≡ Answer.Accepted) (sym last) (accepted-second (firstFault n f) (f n) e))
+    (λ before. none-at-fault n f (accepted-first (firstFault n f) (f n) e) i before)
+    (eq-or-lt-of-le (le-of-suc-le-suc h))
+
+-- both of two tests
+pub both-first : (a b : Bool) → (a && b) ≡ true → a ≡ true
+both-first true b e = refl
+both-first false b e = e
+
+pub both-second : (a b : Bool) → (a && b) ≡ true → b ≡ true
+both-second true b e = e
+both-second false b e = never e
