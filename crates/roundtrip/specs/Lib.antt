@@ -1,0 +1,6 @@
+-- Scripts there and back: "Script to table to script gives the same bytes".
+pub mod AssumedRead
+pub mod ReadGiving
+pub mod ReadNumbers
+pub mod ReadStanding
+pub mod ReadEntries
