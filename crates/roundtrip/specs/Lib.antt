@@ -4,3 +4,4 @@ pub mod ReadGiving
 pub mod ReadNumbers
 pub mod ReadStanding
 pub mod ReadEntries
+pub mod ReadSoFar
