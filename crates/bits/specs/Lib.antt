@@ -4,5 +4,8 @@ pub mod Digits
 pub mod Twos
 pub mod Putting
 pub mod Holding
+pub mod Lists
+pub mod Packing
+pub mod Putall
 pub mod Reading
 pub mod Packed
