@@ -1,7 +1,8 @@
 -- Scripts there and back: "Script to table to script gives the same bytes".
-pub mod AssumedRead
 pub mod ReadGiving
 pub mod ReadNumbers
 pub mod ReadStanding
 pub mod ReadEntries
 pub mod ReadSoFar
+pub mod ReadFaults
+pub mod ReadTable

@@ -23,7 +23,7 @@ use Rattle.table.specs.Faults.{operandFault, operandsFault}
 use Rattle.script.specs.Operands.{widthOf, fieldOf, constantField}
 use Rattle.script.specs.Reader.{operand, bare, one, two, three, kinds, entry}
 use Rattle.script.specs.Writer.{part, entryParts}
-use Rattle.roundtrip.specs.AssumedRead.{there-lt}
+use Rattle.bits.specs.Packing.{there-lt}
 use Rattle.roundtrip.specs.ReadGiving.{Gives, gives-value, gives-also, gives-field, unless-true}
 use Rattle.roundtrip.specs.ReadNumbers.{signed-again}
 use Rattle.roundtrip.specs.ReadStanding.{Stands, stands-none, stands-more}

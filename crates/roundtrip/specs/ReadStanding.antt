@@ -7,7 +7,7 @@ use Rattle.bits.specs.declared.Field.{Field}
 use Rattle.bits.specs.Bits.{Part, fieldAt}
 use Rattle.bits.specs.Holding.{widthOfAll, Holds}
 use Rattle.script.specs.Writer.{part}
-use Rattle.roundtrip.specs.AssumedRead.{width-append, holds-append}
+use Rattle.bits.specs.Packing.{width-append, holds-append}
 
 -- the fields stand one after another from bit `at` on, and bit `next` comes after them
 pub record Stands (s : List ℕ) (at next : ℕ) (ps : List Part) : Type 0 where
