@@ -6,3 +6,5 @@ pub mod ReadEntries
 pub mod ReadSoFar
 pub mod ReadFaults
 pub mod ReadTable
+pub mod ReadBlock
+pub mod ReadAgain

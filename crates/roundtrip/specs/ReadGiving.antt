@@ -2,14 +2,17 @@
 use mathlib.Core.Bool.{Bool, true, false}
 use mathlib.Core.List.{List}
 use mathlib.Core.Path.{_≡_, refl, sym, subst₂}
-use Prim.Native.Nat.{ℕ, _+_}
+use Prim.Native.Nat.{ℕ, _+_, _*_}
 use native.Mathlib.Omega.{arith}
+use lib.Dec.{eqb}
+use lib.ListN.{length}
+use borrow.Author.Tests.{eqb-true}
 use Rattle.refusals.specs.declared.Refusal.{Refusal}
 use Rattle.refusals.specs.declared.Answer.{Answer}
 use Rattle.refusals.specs.Numbering.{unless}
 use Rattle.bits.specs.declared.Field.{Field}
 use Rattle.bits.specs.Bits.{fieldAt}
-use Rattle.bits.specs.Reading.{Got, got, refused, onward, judged, taken, field}
+use Rattle.bits.specs.Reading.{Got, got, refused, onward, judged, taken, field, ended}
 
 -- what is given, if anything is, has the property
 pub record Gives {A : Type 0} (m : Got A) (P : A → ℕ → Type 0) : Type 0 where
@@ -39,7 +42,7 @@ unless-true true r e = refl
 unless-true false r e = cc
 
 -- a value that is judged, and then another reading
-pub gives-judged : {A B : Type 0} (answer : Answer) (a : A) (next : ℕ) (f : A → ℕ → Got B) {P : B → ℕ → Type 0}
+gives-judged : {A B : Type 0} (answer : Answer) (a : A) (next : ℕ) (f : A → ℕ → Got B) {P : B → ℕ → Type 0}
     → (answer ≡ Answer.Accepted → Gives (f a next) P) → Gives (onward (judged answer a next) f) P
 gives-judged Answer.Accepted a next f h = h refl
 gives-judged (Answer.Refused r) a next f h = gives-refused
@@ -53,3 +56,9 @@ gives-taken cut judge next (Field.There v) f h = gives-judged (judge v) v next f
 pub gives-field : {B : Type 0} (s : List ℕ) (at w : ℕ) (cut : Refusal) (judge : ℕ → Answer) (f : ℕ → ℕ → Got B) {P : B → ℕ → Type 0}
     → ((v : ℕ) → fieldAt s at w ≡ Field.There v → judge v ≡ Answer.Accepted → Gives (f v (at + w)) P) → Gives (onward (field cut w judge s at) f) P
 gives-field s at w cut judge f h = gives-taken cut judge (at + w) (fieldAt s at w) f h
+
+-- "Nothing follows", and then another reading: the end of the bytes was there
+pub gives-ended : {B : Type 0} (s : List ℕ) (at : ℕ) (leftOver : Refusal) (f : ℕ → ℕ → Got B) {P : B → ℕ → Type 0}
+    → (at ≡ 8 * length s → Gives (f 0 at) P) → Gives (onward (ended leftOver s at) f) P
+gives-ended s at leftOver f h =
+    gives-judged (unless (eqb at (8 * length s)) leftOver) 0 at f (λ good. h (eqb-true at (8 * length s) (unless-true (eqb at (8 * length s)) leftOver good)))
