@@ -9,7 +9,6 @@ use lib.ListN.{length, drop, take-append-drop}
 use borrow.Author.Tests.{ltb-false, le-leb}
 use Rattle.refusals.specs.declared.Refusal.{Refusal}
 use Rattle.refusals.specs.declared.Answer.{Answer}
-use Rattle.bits.specs.Bits.{paddingAt}
 use Rattle.bits.specs.Holding.{Bytes, widthOfAll}
 use Rattle.bits.specs.Packing.{held-packed, there-ends}
 use Rattle.bits.specs.Reading.{Got, got, refused}
@@ -36,10 +35,12 @@ record ScriptRead (s : List ℕ) (t : Table) : Type 0 where
   count : ℕ
   rest : labels (labelsBefore t (t .n)) s next ≡ got count (8 * length s)
 
+-- "Number 1 comes before all reading"
 short-enough : {A : Type 0} (long : Bool) (r : Refusal) (m : Got A) {P : A → ℕ → Type 0} → (long ≡ false → Gives m P) → Gives (cond long (refused r) m) P
 short-enough true r m h = gives-refused
 short-enough false r m h = h refl
 
+-- what is known of a script that is read
 script-read : (s : List ℕ) → Gives (scriptOf s) (λ t end. ScriptRead s t)
 unfolding scriptOf wholeScript
 script-read s =
@@ -77,14 +78,16 @@ pub script-again : (s : List ℕ) → Bytes s → (t : Table) (end : ℕ) → sc
 unfolding scriptBytes
 script-again s bytes t end e =
     let r = script-read s .told t end e in
-    ap₂ _++_ (sym (held-packed s (tableParts t) bytes (r .table .held) (r .table .padded))) (block-after s t end e r) ∙ take-append-drop (tableBytes t) s
+    let packed = held-packed s (tableParts t) bytes (r .table .held) (r .table .padded) in
+    ap₂ _++_ (sym packed) (block-after s t end e r) ∙ take-append-drop (tableBytes t) s
 
 -- a script that is read can be written, where there is room for it
-pub writer-takes : (s : List ℕ) → Bytes s → (t : Table) (end : ℕ) → scriptOf s ≡ got t end → (room : ℕ) → length s ≤ room → writerFault t (blockOf s) room ≡ Answer.Accepted
+pub writer-takes : (s : List ℕ) → Bytes s → (t : Table) (end : ℕ) → scriptOf s ≡ got t end → (room : ℕ) → length s ≤ room
+    → writerFault t (blockOf s) room ≡ Answer.Accepted
 unfolding writerFault
 writer-takes s bytes t end e room enough =
     let r = script-read s .told t end e in
     let within : tableBytes t ≤ length s = omega (arith, there-ends s _ _ _ (r .table .padded)) in
-    let block : blockFault t (blockOf s) ≡ Answer.Accepted =
-      ap (blockFault t) (block-after s t end e r) ∙ block-sound s (tableBytes t) within t (r .count) (ap (labels (labelsBefore t (t .n)) s) (sym (r .table .ends)) ∙ r .rest) in
+    let rest = ap (labels (labelsBefore t (t .n)) s) (sym (r .table .ends)) ∙ r .rest in
+    let block = ap (blockFault t) (block-after s t end e r) ∙ block-sound s (tableBytes t) within t (r .count) rest in
     rw (r .table .sound, block, script-again s bytes t end e, le-leb (length s) (limits .script) (r .short), le-leb (length s) room enough)

@@ -1,11 +1,11 @@
 -- Labels read from a whole byte on are the same labels read from the rest of the bytes alone.
 use mathlib.Core.Bool.{Bool, true, false, cond, _&&_}
 use mathlib.Core.List.{List}
-use mathlib.Core.Path.{_≡_, refl, sym, _∙_, ap, subst}
+use mathlib.Core.Path.{_≡_, refl, sym, _∙_, ap}
 use Prim.Native.Nat.{ℕ, zero, suc, _+_, _-_, _*_, _/_, _%_, _^_, _<_, _≤_}
 use native.Mathlib.Nat.{add-assoc}
 use native.Mathlib.Omega.{arith}
-use lib.Dec.{leb, eqb}
+use lib.Dec.{leb}
 use lib.ListN.{length, getD, take, drop, length-drop}
 use lib.Seq.{getD-drop, drop-drop}
 use borrow.Author.Tests.{leb-true, leb-false, le-leb, lt-leb, eq-eqb}
@@ -19,7 +19,7 @@ use Rattle.table.specs.declared.Table.{Table}
 use Rattle.table.specs.Tables.{labelsBefore}
 use Rattle.script.specs.declared.Span.{Span}
 use Rattle.script.specs.Labels.{printable, text, label, labels}
-use Rattle.script.specs.Writer.{answered, blockFault}
+use Rattle.script.specs.Writer.{blockFault}
 use Rattle.roundtrip.specs.ReadGiving.{Gives, gives-value, gives-refused, gives-onward, gives-field}
 
 -- two tests of order that say the same
@@ -52,6 +52,7 @@ text-tests true false k next end span span′ same = gives-refused
 text-tests false good k next end span span′ same = gives-refused
 
 module _ (s : List ℕ) (m : ℕ) (within : m ≤ length s) where
+  -- bits, fields, texts and labels of the bytes after the first m
   bit-dropped : (j : ℕ) → bitAt (drop m s) j ≡ bitAt s (8 * m + j)
   unfolding bitAt
   bit-dropped j =
@@ -69,14 +70,15 @@ module _ (s : List ℕ) (m : ℕ) (within : m ≤ length s) where
   unfolding fieldAt bitsAt
   field-dropped at w =
       ap (λ (b : Bool). cond (leb w widest && b) (Field.There (numberFrom (bitAt (drop m s)) at w)) Field.Missing) (wholly-dropped at w)
-      ∙ ap (λ (v : ℕ). cond (leb w widest && wholly s (8 * m + at) w) (Field.There v) Field.Missing) (number-later (bitAt (drop m s)) (bitAt s) (8 * m) at w bit-dropped)
+      ∙ ap (λ (v : ℕ). cond (leb w widest && wholly s (8 * m + at) w) (Field.There v) Field.Missing)
+      (number-later (bitAt (drop m s)) (bitAt s) (8 * m) at w bit-dropped)
 
   text-dropped : (size at : ℕ) → Gives (text size s (8 * m + at)) (λ span next. Before (8 * m) (text size (drop m s) at) next)
   unfolding text
   text-dropped size at =
       let byte : m + at / 8 ≡ (8 * m + at) / 8 = omega arith in
       let same : drop (at / 8) (drop m s) ≡ drop ((8 * m + at) / 8) s = drop-drop (at / 8) m s ∙ ap (λ (i : ℕ). drop i s) byte in
-      rw (wholly-dropped at (8 * size), same) 
+      rw (wholly-dropped at (8 * size), same)
       (text-tests (wholly s (8 * m + at) (8 * size)) (printable (take size (drop ((8 * m + at) / 8) s))) (8 * m) (8 * m + at + 8 * size) (at + 8 * size)
       (record { from = (8 * m + at) / 8; size = size }) (record { from = at / 8; size = size }) (omega arith))
 
@@ -95,9 +97,11 @@ module _ (s : List ℕ) (m : ℕ) (within : m ≤ length s) where
       rw (b .later, b .given) (labels-dropped count (b .end)))
 
   -- "the block": accepted where reading the labels goes to the end of the bytes
-  pub block-sound : (t : Table) (count : ℕ) → labels (labelsBefore t (t .n)) s (8 * m) ≡ got count (8 * length s) → blockFault t (drop m s) ≡ Answer.Accepted
+  pub block-sound : (t : Table) (count : ℕ) → labels (labelsBefore t (t .n)) s (8 * m) ≡ got count (8 * length s)
+      → blockFault t (drop m s) ≡ Answer.Accepted
   unfolding blockFault
   block-sound t count e =
-      let b = labels-dropped (labelsBefore t (t .n)) 0 .told count (8 * length s) (ap (labels (labelsBefore t (t .n)) s) (omega arith) ∙ e) in
+      let from-start : labels (labelsBefore t (t .n)) s (8 * m + 0) ≡ got count (8 * length s) = ap (labels (labelsBefore t (t .n)) s) (omega arith) ∙ e in
+      let b = labels-dropped (labelsBefore t (t .n)) 0 .told count (8 * length s) from-start in
       let all : b .end ≡ 8 * length (drop m s) = omega (arith, b .later, length-drop m s) in
       rw (b .given, eq-eqb (b .end) (8 * length (drop m s)) all)

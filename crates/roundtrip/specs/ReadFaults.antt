@@ -1,15 +1,14 @@
 -- A table of which every slot is in order has no fault.
-use mathlib.Core.Bool.{Bool, true, false, not, _&&_, _||_}
-use mathlib.Core.Path.{_≡_, refl, sym, _∙_, ap}
+use mathlib.Core.Bool.{Bool, true, false, not, _||_}
+use mathlib.Core.Path.{_≡_, refl}
 use Prim.Native.Nat.{ℕ, zero, suc, _<_, _≤_}
 use native.Mathlib.Omega.{arith}
-use lib.Dec.{ltb, leb}
+use lib.Dec.{ltb}
 use lib.IntN.{pos}
 use borrow.Author.Tests.{ltb-false, le-leb}
 use Rattle.values.specs.declared.Number.{Number}
-use Rattle.values.specs.Numbers.{eqZ}
 use Rattle.refusals.specs.declared.Answer.{Answer}
-use Rattle.refusals.specs.Numbering.{unless, andThen, firstFault}
+use Rattle.refusals.specs.Numbering.{firstFault}
 use Rattle.table.specs.declared.Entry.{Entry}
 use Rattle.table.specs.declared.Table.{Table}
 use Rattle.table.specs.Limits.{limits}
@@ -45,16 +44,23 @@ pub unused-slots : (t : Table) → ((j : ℕ) → t .n ≤ j → j < limits .slo
     → ((j : ℕ) → t .q ≤ j → isEvent t j ≡ false) → ((j : ℕ) → t .v ≤ j → initialOf t j ≡ Number.Undefined) → unusedSlots t ≡ true
 unfolding unusedSlots operandsOf
 unused-slots t no-entry no-import no-number =
-    rw (every-slot (t .n) (limits .slots) (λ k. zeroConstant (operandsOf (entryAt t k))) (λ k late early. rw (no-entry k late early)),
-    every-slot (t .q) (limits .imports) (λ i. not (isEvent t i)) (λ i late early. rw (no-import i late)),
-    every-slot (t .v) (limits .variables) (λ x. isUndefined (initialOf t x)) (λ x late early. rw (no-number x late)))
+    rw (
+      every-slot (t .n) (limits .slots) (λ k. zeroConstant (operandsOf (entryAt t k))) (λ k late early. rw (no-entry k late early)),
+      every-slot (t .q) (limits .imports) (λ i. not (isEvent t i)) (λ i late early. rw (no-import i late)),
+      every-slot (t .v) (limits .variables) (λ x. isUndefined (initialOf t x)) (λ x late early. rw (no-number x late)),
+    )
 
 -- "n, q or v outside its limits; ... also an unused slot"
 pub within-limits : (t : Table) → Within t → unusedSlots t ≡ true → limitsFault t ≡ Answer.Accepted
 unfolding limitsFault
 within-limits t within unused =
-    rw (le-leb 1 (t .n) (within .some-entry), le-leb (t .n) (limits .entries) (within .entries), le-leb (t .q) (limits .imports) (within .imports),
-    le-leb (t .v) (limits .variables) (within .variables), unused)
+    rw (
+      le-leb 1 (t .n) (within .some-entry),
+      le-leb (t .n) (limits .entries) (within .entries),
+      le-leb (t .q) (limits .imports) (within .imports),
+      le-leb (t .v) (limits .variables) (within .variables),
+      unused,
+    )
 
 -- the writer's check of a table, part by part
 pub table-sound : (t : Table) → limitsFault t ≡ Answer.Accepted → ((x : ℕ) → x < t .v → numberFault (initialOf t x) ≡ Answer.Accepted)

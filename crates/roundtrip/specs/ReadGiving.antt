@@ -1,7 +1,7 @@
 -- What reading gives where nothing is refused: a law about each way to put a reading together.
 use mathlib.Core.Bool.{Bool, true, false}
 use mathlib.Core.List.{List}
-use mathlib.Core.Path.{_≡_, refl, sym, subst₂}
+use mathlib.Core.Path.{_≡_, refl, subst₂}
 use Prim.Native.Nat.{ℕ, _+_, _*_}
 use native.Mathlib.Omega.{arith}
 use lib.Dec.{eqb}
@@ -47,18 +47,22 @@ gives-judged : {A B : Type 0} (answer : Answer) (a : A) (next : ℕ) (f : A → 
 gives-judged Answer.Accepted a next f h = h refl
 gives-judged (Answer.Refused r) a next f h = gives-refused
 
+-- what a field's answer leads to, and then another reading
 gives-taken : {B : Type 0} (cut : Refusal) (judge : ℕ → Answer) (next : ℕ) (there : Field) (f : ℕ → ℕ → Got B) {P : B → ℕ → Type 0}
-    → ((v : ℕ) → there ≡ Field.There v → judge v ≡ Answer.Accepted → Gives (f v next) P) → Gives (onward (taken cut judge next there) f) P
+    → ((v : ℕ) → there ≡ Field.There v → judge v ≡ Answer.Accepted → Gives (f v next) P)
+    → Gives (onward (taken cut judge next there) f) P
 gives-taken cut judge next Field.Missing f h = gives-refused
 gives-taken cut judge next (Field.There v) f h = gives-judged (judge v) v next f (h v refl)
 
 -- a field and then another reading: the field was there and was judged good, and reading goes on after it
 pub gives-field : {B : Type 0} (s : List ℕ) (at w : ℕ) (cut : Refusal) (judge : ℕ → Answer) (f : ℕ → ℕ → Got B) {P : B → ℕ → Type 0}
-    → ((v : ℕ) → fieldAt s at w ≡ Field.There v → judge v ≡ Answer.Accepted → Gives (f v (at + w)) P) → Gives (onward (field cut w judge s at) f) P
+    → ((v : ℕ) → fieldAt s at w ≡ Field.There v → judge v ≡ Answer.Accepted → Gives (f v (at + w)) P)
+    → Gives (onward (field cut w judge s at) f) P
 gives-field s at w cut judge f h = gives-taken cut judge (at + w) (fieldAt s at w) f h
 
 -- "Nothing follows", and then another reading: the end of the bytes was there
 pub gives-ended : {B : Type 0} (s : List ℕ) (at : ℕ) (leftOver : Refusal) (f : ℕ → ℕ → Got B) {P : B → ℕ → Type 0}
     → (at ≡ 8 * length s → Gives (f 0 at) P) → Gives (onward (ended leftOver s at) f) P
 gives-ended s at leftOver f h =
-    gives-judged (unless (eqb at (8 * length s)) leftOver) 0 at f (λ good. h (eqb-true at (8 * length s) (unless-true (eqb at (8 * length s)) leftOver good)))
+    gives-judged (unless (eqb at (8 * length s)) leftOver) 0 at f
+    (λ good. h (eqb-true at (8 * length s) (unless-true (eqb at (8 * length s)) leftOver good)))

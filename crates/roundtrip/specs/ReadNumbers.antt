@@ -2,11 +2,10 @@
 use mathlib.Core.Bool.{Bool, true, false, cond, _||_}
 use mathlib.Core.List.{[], _∷_}
 use mathlib.Core.Path.{_≡_, refl, sym, ap}
-use Prim.Native.Nat.{ℕ, zero, suc, _-_, _^_, _<_, _≤_}
+use Prim.Native.Nat.{ℕ, zero, suc, _-_, _^_, _<_}
 use native.Mathlib.Omega.{arith}
 use lib.Dec.{ltb, eqb}
-use lib.Signed.{mag}
-use lib.IntN.{ℤ, pos, negsuc}
+use lib.IntN.{pos, negsuc}
 use borrow.Author.Tests.{lt-ltb, ltb-false, eqb-true}
 use Rattle.values.specs.Numbers.{inRange}
 use Rattle.refusals.specs.declared.Answer.{Answer}
@@ -19,7 +18,7 @@ use Rattle.script.specs.Writer.{part, numberParts}
 -- the number in the field again
 pub signed-again : (v : ℕ) → v < 2 ^ 48 → unsigned (signed v) ≡ v
 unfolding signed unsigned
-signed-again v h = by-test (ltb v (2 ^ 47)) 
+signed-again v h = by-test (ltb v (2 ^ 47))
   where
     by-test : (b : Bool) → unsigned (cond b (pos v) (negsuc (2 ^ 48 - suc v))) ≡ v
     by-test true = refl
@@ -41,7 +40,8 @@ bit-again (suc zero) h = refl
 bit-again (suc (suc b)) h = absurd (omega arith)
 
 -- "48 bits, two's complement; all zero where it starts undefined": a variable's start
-pub starting-again : (bit v : ℕ) → bit < 2 → v < 2 ^ 48 → (eqb bit 1 || eqb v 0) ≡ true → numberParts (starting bit v) ≡ part 1 bit ∷ part 48 v ∷ []
+pub starting-again : (bit v : ℕ) → bit < 2 → v < 2 ^ 48 → (eqb bit 1 || eqb v 0) ≡ true
+    → numberParts (starting bit v) ≡ part 1 bit ∷ part 48 v ∷ []
 starting-again zero v two h good = ap (λ (u : ℕ). part 1 0 ∷ part 48 u ∷ []) (sym (eqb-true v 0 good))
 starting-again (suc zero) v two h good = ap (λ (u : ℕ). part 1 1 ∷ part 48 u ∷ []) (signed-again v h)
 starting-again (suc (suc b)) v two h good = absurd (omega arith)

@@ -1,6 +1,6 @@
 -- Fields that stand in bytes from one bit up to another.
 use mathlib.Core.List.{List, [], _∷_, _++_}
-use mathlib.Core.Path.{_≡_, refl, sym}
+use mathlib.Core.Path.{_≡_}
 use Prim.Native.Nat.{ℕ, _+_}
 use native.Mathlib.Omega.{arith}
 use Rattle.bits.specs.declared.Field.{Field}
@@ -20,12 +20,14 @@ unfolding Holds widthOfAll
 stands-none = record { held = tt; ends = omega arith }
 
 -- one field and then others
-pub stands-more : {s : List ℕ} {at w v next : ℕ} {ps : List Part} → fieldAt s at w ≡ Field.There v → Stands s (at + w) next ps → Stands s at next (part w v ∷ ps)
+pub stands-more : {s : List ℕ} {at w v next : ℕ} {ps : List Part} → fieldAt s at w ≡ Field.There v → Stands s (at + w) next ps
+    → Stands s at next (part w v ∷ ps)
 unfolding Holds widthOfAll
 stands-more there rest = record { held = (there, rest .held); ends = omega (arith, rest .ends) }
 
 -- fields of one list and then those of another
-pub stands-append : {s : List ℕ} {at mid next : ℕ} {ps qs : List Part} → Stands s at mid ps → Stands s mid next qs → Stands s at next (ps ++ qs)
+pub stands-append : {s : List ℕ} {at mid next : ℕ} {ps qs : List Part} → Stands s at mid ps → Stands s mid next qs
+    → Stands s at next (ps ++ qs)
 stands-append {s} {at} {mid} {next} {ps} {qs} first second =
     record {
       held = holds-append s at ps qs (first .held) (rw (first .ends) at (second .held));

@@ -1,8 +1,8 @@
 -- The table of a script, read: its fields stand in the bytes, zero bits follow up to a whole byte, and it has no fault.
-use mathlib.Core.Bool.{Bool, true, false, _&&_, _||_}
-use mathlib.Core.List.{List, [], _∷_, _++_}
+use mathlib.Core.Bool.{Bool, true, false, _&&_}
+use mathlib.Core.List.{List}
 use mathlib.Core.Path.{_≡_, refl, sym, ap, subst, subst₃}
-use Prim.Native.Nat.{ℕ, zero, suc, _+_, _*_, _/_, _<_, _≤_}
+use Prim.Native.Nat.{ℕ, zero, suc, _+_, _*_, _/_}
 use native.Mathlib.Omega.{arith}
 use lib.Dec.{leb, eqb}
 use lib.ListN.{getD, replicate, getD-replicate}
@@ -21,12 +21,13 @@ use Rattle.table.specs.Tables.{Shaped, entryAt, isEvent, initialOf}
 use Rattle.table.specs.Faults.{tableFault}
 use Rattle.script.specs.Reader.{counted, header, imports, variables, entries, packedTable}
 use Rattle.script.specs.Writer.{joined, headerParts, tableParts}
-use Rattle.roundtrip.specs.ReadGiving.{Gives, gives-value, gives-also, gives-onward, gives-field, unless-true}
+use Rattle.roundtrip.specs.ReadGiving.{Gives, gives-value, gives-onward, gives-field, unless-true}
 use Rattle.roundtrip.specs.ReadStanding.{Stands, stands-none, stands-more}
 use Rattle.roundtrip.specs.ReadEntries.{entry-read}
 use Rattle.roundtrip.specs.ReadSoFar.{SoFar, import-step, variable-step, entry-step}
 use Rattle.roundtrip.specs.ReadFaults.{Within, unused-slots, within-limits, table-sound}
 
+-- both of two tests that were passed
 both-true : (a b : Bool) → (a && b) ≡ true → (a ≡ true) × (b ≡ true)
 both-true true b e = (refl, e)
 both-true false b e = (e, cc)
@@ -66,25 +67,31 @@ header-read s =
     let bounds = both-true (leb 1 n) (leb n (limits .entries)) (unless-true _ _ some) in
     let first = eqb-true f 1 (unless-true (eqb f 1) Refusal.Format one) in
     let last = eqb-true z 0 (unless-true (eqb z 0) Refusal.HeaderBits nothing) in
-    gives-value
-    (record {
-      some-entry = leb-true 1 n (bounds .0);
-      entries = leb-true n (limits .entries) (bounds .1);
-      imports = leb-true q (limits .imports) (unless-true _ _ few);
-      variables = leb-true v (limits .variables) (unless-true _ _ fewer);
-    },
-    counted-so-far s n q v _ (stands-more (rw first at format) (stands-more entries-there (stands-more imports-there (stands-more variables-there (stands-more (rw last at zeros) stands-none)))))))))))
+    gives-value (
+      record {
+        some-entry = leb-true 1 n (bounds .0);
+        entries = leb-true n (limits .entries) (bounds .1);
+        imports = leb-true q (limits .imports) (unless-true _ _ few);
+        variables = leb-true v (limits .variables) (unless-true _ _ fewer);
+      },
+      counted-so-far s n q v _
+          (stands-more (rw first at format)
+          (stands-more entries-there (stands-more imports-there (stands-more variables-there (stands-more (rw last at zeros) stands-none))))),
+    ))))))
 
 module _ (c : Table) (within : Within c) (s : List ℕ) where
   -- "q bits, one for each import"
-  imports-read : (left i : ℕ) (t : Table) (at : ℕ) → i + left ≡ c .q → SoFar c s i 0 0 t at → Gives (imports left i t s at) (SoFar c s (c .q) 0 0)
+  imports-read : (left i : ℕ) (t : Table) (at : ℕ) → i + left ≡ c .q → SoFar c s i 0 0 t at
+      → Gives (imports left i t s at) (SoFar c s (c .q) 0 0)
   unfolding imports
   imports-read zero i t at all h = gives-value (subst (λ (m : ℕ). SoFar c s m 0 0 t at) (omega arith) h)
   imports-read (suc left) i t at all h =
-      gives-field s at 1 _ _ _ (λ bit there good. imports-read left (suc i) _ _ (omega arith) (import-step h (omega (arith, within .imports)) there))
+      gives-field s at 1 _ _ _ (λ bit there good.
+      imports-read left (suc i) _ _ (omega arith) (import-step h (omega (arith, within .imports)) there))
 
   -- "For each variable: 1 bit ..., then 48 bits"
-  variables-read : (left x : ℕ) (t : Table) (at : ℕ) → x + left ≡ c .v → SoFar c s (c .q) x 0 t at → Gives (variables left x t s at) (SoFar c s (c .q) (c .v) 0)
+  variables-read : (left x : ℕ) (t : Table) (at : ℕ) → x + left ≡ c .v → SoFar c s (c .q) x 0 t at
+      → Gives (variables left x t s at) (SoFar c s (c .q) (c .v) 0)
   unfolding variables
   variables-read zero x t at all h = gives-value (subst (λ (m : ℕ). SoFar c s (c .q) m 0 t at) (omega arith) h)
   variables-read (suc left) x t at all h =
@@ -93,7 +100,8 @@ module _ (c : Table) (within : Within c) (s : List ℕ) where
       variables-read left (suc x) _ _ (omega arith) (variable-step h (omega (arith, within .variables)) there number (unless-true _ _ zero-or-defined))))
 
   -- "n entries"
-  entries-read : (left k : ℕ) (t : Table) (at : ℕ) → k + left ≡ c .n → SoFar c s (c .q) (c .v) k t at → Gives (entries left k t s at) (SoFar c s (c .q) (c .v) (c .n))
+  entries-read : (left k : ℕ) (t : Table) (at : ℕ) → k + left ≡ c .n → SoFar c s (c .q) (c .v) k t at
+      → Gives (entries left k t s at) (SoFar c s (c .q) (c .v) (c .n))
   unfolding entries
   entries-read zero k t at all h = gives-value (subst (λ (m : ℕ). SoFar c s (c .q) (c .v) m t at) (omega arith) h)
   entries-read (suc left) k t at all h =
@@ -113,6 +121,7 @@ pub record TableRead (s : List ℕ) (t : Table) (next : ℕ) : Type 0 where
 own-counts : (c t : Table) (s : List ℕ) (at : ℕ) → SoFar c s (c .q) (c .v) (c .n) t at → SoFar c s (t .q) (t .v) (t .n) t at
 own-counts c t s at h = subst₃ (λ (i x k : ℕ). SoFar c s i x k t at) (sym (h .q)) (sym (h .v)) (sym (h .n)) h
 
+-- and so are within their limits
 own-limits : (c t : Table) (s : List ℕ) (i x k at : ℕ) → Within c → SoFar c s i x k t at → Within t
 own-limits c t s i x k at within h =
     record {
@@ -149,4 +158,5 @@ table-read s =
     gives-onward (λ t at₃ read₃.
     let h₃ = entries-read c within s (c .n) 0 started at₂ (omega arith) h₂ .told t at₃ read₃ in
     gives-field s at₃ (paddingAt at₃) _ _ _ (λ z zeros good.
-    gives-value (whole-table c t s at₃ (own-limits c t s _ _ _ at₃ within h₃) (own-counts c t s at₃ h₃) (rw (eqb-true z 0 (unless-true (eqb z 0) Refusal.Padding good)) at zeros)))))))
+    let none = eqb-true z 0 (unless-true (eqb z 0) Refusal.Padding good) in
+    gives-value (whole-table c t s at₃ (own-limits c t s _ _ _ at₃ within h₃) (own-counts c t s at₃ h₃) (rw none at zeros)))))))
