@@ -2,7 +2,7 @@
 use mathlib.Core.List.{List, [], _∷_, _++_}
 use mathlib.Core.Logic.{⊎-elim}
 use mathlib.Core.Path.{_≡_, refl, sym, _∙_, ap, subst}
-use Prim.Native.Nat.{ℕ, zero, suc, _+_, _-_, _*_, _/_, _%_, _^_, _<_, _≤_}
+use Prim.Native.Nat.{ℕ, zero, suc, _+_, _-_, _/_, _%_, _^_, _<_}
 use native.Mathlib.Nat.{zero-div, mod-lt, not-suc-le-zero, eq-or-lt-of-le, le-of-suc-le-suc}
 use native.Mathlib.Decide.{decLt}
 use native.Mathlib.Omega.{arith}
@@ -17,7 +17,7 @@ pub by-places : (P : ℕ → Type 0) (w : ℕ) → ((i : ℕ) → i < w → P i)
 by-places P w first later i =
     elim (decLt i w) [ yes h ↦ first i h | no h ↦ subst P {x = w + (i - w)} {y = i} (omega arith) (later (i - w)) ]
 
--- a list with one element more: what stands at its end
+-- one element more
 pub length-snoc {ℓ} : {A : Type ℓ} (l : List A) (a : A) → length (l ++ (a ∷ [])) ≡ suc (length l)
 length-snoc l a = length-append l (a ∷ []) ∙ omega arith
 
@@ -31,11 +31,11 @@ length-list (suc n) f = length-snoc (listTo n f) (f n) ∙ ap suc (length-list n
 pub getD-list {ℓ} : {A : Type ℓ} (n : ℕ) (f : ℕ → A) (i : ℕ) (d : A) → i < n → getD (listTo n f) i d ≡ f i
 unfolding listTo
 getD-list zero f i d h = absurd (not-suc-le-zero h)
-getD-list {A = A} (suc n) f i d h =
+getD-list (suc n) f i d h =
     ⊎-elim
-      (λ (e : i ≡ n). getD-at (listTo n f) (f n) [] d i (length-list n f ∙ sym e) ∙ ap f (sym e))
-      (λ (l : i < n). List·getD-append (listTo n f) (f n ∷ []) d i (rw (length-list n f) l) ∙ getD-list n f i d l)
-      (eq-or-lt-of-le (le-of-suc-le-suc h))
+    (λ (e : i ≡ n). getD-at (listTo n f) (f n) [] d i (length-list n f ∙ sym e) ∙ ap f (sym e))
+    (λ (l : i < n). List·getD-append (listTo n f) (f n ∷ []) d i (rw (length-list n f) l) ∙ getD-list n f i d l)
+    (eq-or-lt-of-le (le-of-suc-le-suc h))
 
 -- `w` bits are w
 pub length-bits : (w v : ℕ) → length (bitsOf w v) ≡ w
@@ -49,11 +49,15 @@ unfolding bitsOf
 getD-bits zero v i h = absurd (not-suc-le-zero h)
 getD-bits (suc w) v i h =
     ⊎-elim
-      (λ (e : i ≡ w). getD-at (bitsOf w (v / 2)) (v % 2) [] 0 i (length-bits w (v / 2) ∙ sym e)
-        ∙ sym (ap (λ (k : ℕ). v / 2 ^ k % 2) {x = suc w - suc i} {y = 0} (omega arith) ∙ omega arith))
-      (λ (l : i < w). List·getD-append (bitsOf w (v / 2)) (v % 2 ∷ []) 0 i (rw (length-bits w (v / 2)) l) ∙ getD-bits w (v / 2) i l
-        ∙ ap (λ (x : ℕ). x % 2) (shr-shr v 1 (w - suc i)) ∙ ap (λ (k : ℕ). v / 2 ^ k % 2) (omega arith))
-      (eq-or-lt-of-le (le-of-suc-le-suc h))
+    (λ (e : i ≡ w). getD-at (bitsOf w (v / 2)) (v % 2) [] 0 i (length-bits w (v / 2) ∙ sym e) ∙ sym (least e))
+    (λ (l : i < w). List·getD-append (bitsOf w (v / 2)) (v % 2 ∷ []) 0 i (rw (length-bits w (v / 2)) l) ∙ getD-bits w (v / 2) i l ∙ higher l)
+    (eq-or-lt-of-le (le-of-suc-le-suc h))
+  where
+    least : i ≡ w → v / 2 ^ (suc w - suc i) % 2 ≡ v % 2
+    least e = ap (λ (k : ℕ). v / 2 ^ k % 2) {x = suc w - suc i} {y = 0} (omega arith) ∙ omega arith
+
+    higher : i < w → v / 2 / 2 ^ (w - suc i) % 2 ≡ v / 2 ^ (suc w - suc i) % 2
+    higher l = ap (λ (x : ℕ). x % 2) (shr-shr v 1 (w - suc i)) ∙ ap (λ (k : ℕ). v / 2 ^ k % 2) (omega arith)
 
 -- the bits of fields are as many as the fields are wide
 pub length-all : (ps : List Part) → length (bitsOfAll ps) ≡ widthOfAll ps
@@ -80,10 +84,10 @@ unfolding bitsOfAll
 all-lt [] = λ i. omega arith
 all-lt (p ∷ ps) =
     by-places
-      (λ i. getD (bitsOfAll (p ∷ ps)) i 0 < 2)
-      (p .wide)
-      (λ i h. rw (getD-first p ps i h) (mod-lt (p .is / 2 ^ (p .wide - suc i)) (omega arith)))
-      (λ i. rw (getD-later p ps i) (all-lt ps i))
+    (λ i. getD (bitsOfAll (p ∷ ps)) i 0 < 2)
+    (p .wide)
+    (λ i h. rw (getD-first p ps i h) (mod-lt (p .is / 2 ^ (p .wide - suc i)) (omega arith)))
+    (λ i. rw (getD-later p ps i) (all-lt ps i))
 
 -- a field of zero bits
 abbrev pub zeros : ℕ → Part
@@ -94,13 +98,13 @@ pub getD-zeros : (ps : List Part) (w i : ℕ) → getD (bitsOfAll (ps ++ (zeros 
 unfolding bitsOfAll
 getD-zeros [] w =
     by-places
-      (λ i. getD (bitsOfAll (zeros w ∷ [])) i 0 ≡ 0)
-      w
-      (λ i h. getD-first (zeros w) [] i h ∙ ap (λ (b : ℕ). b % 2) (zero-div (2 ^ (w - suc i))))
-      (λ i. getD-later (zeros w) [] i)
+    (λ i. getD (bitsOfAll (zeros w ∷ [])) i 0 ≡ 0)
+    w
+    (λ i h. getD-first (zeros w) [] i h ∙ ap (λ (b : ℕ). b % 2) (zero-div (2 ^ (w - suc i))))
+    (λ i. getD-later (zeros w) [] i)
 getD-zeros (p ∷ ps) w =
     by-places
-      (λ i. getD (bitsOfAll (p ∷ ps ++ (zeros w ∷ []))) i 0 ≡ getD (bitsOfAll (p ∷ ps)) i 0)
-      (p .wide)
-      (λ i h. getD-first p (ps ++ (zeros w ∷ [])) i h ∙ sym (getD-first p ps i h))
-      (λ i. getD-later p (ps ++ (zeros w ∷ [])) i ∙ getD-zeros ps w i ∙ sym (getD-later p ps i))
+    (λ i. getD (bitsOfAll (p ∷ ps ++ (zeros w ∷ []))) i 0 ≡ getD (bitsOfAll (p ∷ ps)) i 0)
+    (p .wide)
+    (λ i h. getD-first p (ps ++ (zeros w ∷ [])) i h ∙ sym (getD-first p ps i h))
+    (λ i. getD-later p (ps ++ (zeros w ∷ [])) i ∙ getD-zeros ps w i ∙ sym (getD-later p ps i))

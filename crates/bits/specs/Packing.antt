@@ -2,7 +2,7 @@
 use mathlib.Core.Bool.{Bool, true, false, _&&_, cond}
 use mathlib.Core.List.{List, [], _∷_, _++_}
 use mathlib.Core.Path.{_≡_, refl, sym, _∙_, ap, ap₂, subst}
-use Prim.Native.Nat.{ℕ, zero, suc, _+_, _-_, _*_, _/_, _%_, _^_, _<_, _≤_}
+use Prim.Native.Nat.{ℕ, suc, _+_, _-_, _*_, _/_, _%_, _^_, _<_, _≤_}
 use native.Mathlib.Nat.{add-assoc, zero-add, add-zero, mod-eq-of-lt}
 use native.Mathlib.Omega.{arith}
 use borrow.Author.Tests.{leb-true, le-leb}
@@ -13,19 +13,21 @@ use lib.Pow.{pow-pos}
 use Rattle.bits.specs.declared.Field.{Field}
 use Rattle.bits.specs.Bits.{Part, numberFrom, bitAt, bitsAt, fieldAt, wholly, widest, bitsOfAll, bytesFrom, bytesOf, paddingAt}
 use Rattle.bits.specs.Digits.{Bitwise, bit-lt, number-lt, number-same, number-bit, number-of-bits}
-use Rattle.bits.specs.Holding.{Bytes, widthOfAll, Fitting, Holds}
+use Rattle.bits.specs.Holding.{Bytes, widthOfAll, Fitting, Narrow, Holds}
 use Rattle.bits.specs.Lists.{length-list, getD-list, length-all, getD-first, getD-later, all-lt, zeros, getD-zeros, by-places}
 
 -- what is known of a field that is there
 abbrev Found : List ℕ → ℕ → ℕ → ℕ → Type 0
 Found s at w v = (w ≤ widest) × ((at + w ≤ 8 * length s) × (bitsAt s at w ≡ v))
 
+-- the two tests, and the number
 found-if : (narrow whole : Bool) (n v : ℕ) → cond (narrow && whole) (Field.There n) Field.Missing ≡ Field.There v
     → (narrow ≡ true) × ((whole ≡ true) × (n ≡ v))
 found-if true true n v e = (refl, (refl, cc))
 found-if true false n v e = let z : _≡_ {A = ℕ} 0 1 = cc in absurd (omega arith)
 found-if false whole n v e = let z : _≡_ {A = ℕ} 0 1 = cc in absurd (omega arith)
 
+-- read off its answer
 found : (s : List ℕ) (at w v : ℕ) → fieldAt s at w ≡ Field.There v → Found s at w v
 unfolding fieldAt
 found s at w v e =
@@ -64,8 +66,14 @@ width-append (p ∷ ps) qs = omega (arith, width-append ps qs)
 -- that they fit
 pub fitting-append : (ps qs : List Part) → Fitting ps → Fitting qs → Fitting (ps ++ qs)
 unfolding Fitting
-fitting-append [] qs fits fit = fit
-fitting-append (p ∷ ps) qs fits fit = (fits .0, (fits .1 .0, fitting-append ps qs (fits .1 .1) fit))
+fitting-append [] qs first second = second
+fitting-append (p ∷ ps) qs first second = (first .0, (first .1 .0, fitting-append ps qs (first .1 .1) second))
+
+-- that none is wider than the widest
+pub narrow-append : (ps qs : List Part) → Narrow ps → Narrow qs → Narrow (ps ++ qs)
+unfolding Narrow
+narrow-append [] qs first second = second
+narrow-append (p ∷ ps) qs first second = (first .0, narrow-append ps qs (first .1) second)
 
 -- that they are held
 pub holds-append : (s : List ℕ) (at : ℕ) (ps qs : List Part) → Holds s at ps → Holds s (at + widthOfAll ps) qs → Holds s at (ps ++ qs)
@@ -74,12 +82,13 @@ holds-append s at [] qs first second = rw (add-zero at) at second
 holds-append s at (p ∷ ps) qs first second =
     (first .0, holds-append s (at + p .wide) ps qs (first .1) (rw (add-assoc at (p .wide) (widthOfAll ps)) second))
 
--- and that each list is
+-- and that the first of them is
 pub holds-first : (s : List ℕ) (at : ℕ) (ps qs : List Part) → Holds s at (ps ++ qs) → Holds s at ps
 unfolding Holds
 holds-first s at [] qs held = tt
 holds-first s at (p ∷ ps) qs held = (held .0, holds-first s (at + p .wide) ps qs (held .1))
 
+-- or the second, from where the first ends
 pub holds-second : (s : List ℕ) (at : ℕ) (ps qs : List Part) → Holds s at (ps ++ qs) → Holds s (at + widthOfAll ps) qs
 unfolding Holds widthOfAll
 holds-second s at [] qs held = rw (add-zero at) held
@@ -111,17 +120,18 @@ bit-of-bytes n bit j two h =
 -- a byte is the number that its bits make
 pub byte-again : (s : List ℕ) (i : ℕ) → Bytes s → i < length s → numberFrom (bitAt s) (8 * i) 8 ≡ getD s i 0
 unfolding bitAt
-byte-again s i bytes h =
-    number-of-bits (bitAt s) (8 * i) 8 (getD s i 0)
-      (λ k l. ap₂ (λ (n m : ℕ). getD s n 0 / 2 ^ m % 2) {x = (8 * i + k) / 8} {y = i} {u = 7 - (8 * i + k) % 8} {v = 8 - suc k} (omega arith) (omega arith))
-    ∙ mod-eq-of-lt (bytes i h)
+byte-again s i bytes h = number-of-bits (bitAt s) (8 * i) 8 (getD s i 0) bit ∙ mod-eq-of-lt (bytes i h)
+  where
+    bit : (k : ℕ) → k < 8 → bitAt s (8 * i + k) ≡ getD s i 0 / 2 ^ (8 - suc k) % 2
+    bit k l =
+        ap₂ (λ (n m : ℕ). getD s n 0 / 2 ^ m % 2) {x = (8 * i + k) / 8} {y = i} {u = 7 - (8 * i + k) % 8} {v = 8 - suc k} (omega arith) (omega arith)
 
 -- bytes are made from their own bits
 pub bytes-again : (s : List ℕ) → Bytes s → bytesFrom (length s) (bitAt s) ≡ s
 bytes-again s bytes =
     let long = length-from (length s) (bitAt s) in
     ext-getD 0 (bytesFrom (length s) (bitAt s)) s long
-      (λ i h. byte-from (length s) (bitAt s) i (rw long at h) ∙ byte-again s i bytes (rw long at h))
+    (λ i h. byte-from (length s) (bitAt s) i (rw long at h) ∙ byte-again s i bytes (rw long at h))
 
 -- what follows changes no bit
 pub bit-first : (s rest : List ℕ) (j : ℕ) → j < 8 * length s → bitAt (s ++ rest) j ≡ bitAt s j
@@ -152,32 +162,43 @@ pub holds-bits : (s : List ℕ) (at : ℕ) (ps : List Part) → Fitting ps → a
     → ((j : ℕ) → j < widthOfAll ps → bitAt s (at + j) ≡ getD (bitsOfAll ps) j 0) → Holds s at ps
 unfolding Fitting Holds widthOfAll
 holds-bits s at [] fits room bits = tt
-holds-bits s at (p ∷ ps) fits room bits =
-    ( there-if s at (p .wide) (fits .0) (omega arith)
-      ∙ ap Field.There
-        (number-of-bits (bitAt s) at (p .wide) (p .is) (λ i h. bits i (omega arith) ∙ getD-first p ps i h) ∙ mod-eq-of-lt (fits .1 .0))
-    , holds-bits s (at + p .wide) ps (fits .1 .1) (omega arith)
-      (λ j h. ap (bitAt s) (add-assoc at (p .wide) j) ∙ bits (p .wide + j) (omega arith) ∙ getD-later p ps j)
-    )
+holds-bits s at (p ∷ ps) fits room bits = (
+  there-if s at (p .wide) (fits .0) (omega arith) ∙ ap Field.There number,
+  holds-bits s (at + p .wide) ps (fits .1 .1) (omega arith) later,
+)
+  where
+    number : numberFrom (bitAt s) at (p .wide) ≡ p .is
+    number = number-of-bits (bitAt s) at (p .wide) (p .is) (λ i h. bits i (omega arith) ∙ getD-first p ps i h) ∙ mod-eq-of-lt (fits .1 .0)
+
+    later : (j : ℕ) → j < widthOfAll ps → bitAt s (at + p .wide + j) ≡ getD (bitsOfAll ps) j 0
+    later j h = ap (bitAt s) (add-assoc at (p .wide) j) ∙ bits (p .wide + j) (omega arith) ∙ getD-later p ps j
 
 -- what is packed can be taken again, whatever follows
 pub packed-holds : (ps : List Part) (rest : List ℕ) → Fitting ps → Holds (bytesOf (bitsOfAll ps) ++ rest) 0 ps
 packed-holds ps rest fits =
     holds-bits (bytesOf (bitsOfAll ps) ++ rest) 0 ps fits
-      (omega (arith, length-append (bytesOf (bitsOfAll ps)) rest, length-packed ps))
-      (λ j h. ap (bitAt (bytesOf (bitsOfAll ps) ++ rest)) (zero-add j) ∙ packed-bit ps rest j (omega arith))
+    (omega (arith, length-append (bytesOf (bitsOfAll ps)) rest, length-packed ps))
+    (λ j h. ap (bitAt (bytesOf (bitsOfAll ps) ++ rest)) (zero-add j) ∙ packed-bit ps rest j (omega arith))
 
 -- and its padding is zero
 pub packed-padding : (ps : List Part) (rest : List ℕ)
     → fieldAt (bytesOf (bitsOfAll ps) ++ rest) (widthOfAll ps) (paddingAt (widthOfAll ps)) ≡ Field.There 0
 unfolding Fitting Holds widthOfAll bitsOfAll
 packed-padding ps rest =
-    holds-bits (bytesOf (bitsOfAll ps) ++ rest) (widthOfAll ps) (zeros (paddingAt (widthOfAll ps)) ∷ [])
-      (omega arith, (pow-pos (paddingAt (widthOfAll ps)), tt))
-      (omega (arith, length-append (bytesOf (bitsOfAll ps)) rest, length-packed ps))
-      (λ j h. packed-bit ps rest (widthOfAll ps + j) (omega arith)
-        ∙ List·getD-eq-default (bitsOfAll ps) 0 (omega (arith, length-all ps)) ∙ sym (getD-zeros [] (paddingAt (widthOfAll ps)) j))
+    holds-bits (bytesOf (bitsOfAll ps) ++ rest) n (zeros (paddingAt n) ∷ [])
+    (omega arith, (pow-pos (paddingAt n), tt))
+    (omega (arith, length-append (bytesOf (bitsOfAll ps)) rest, length-packed ps))
+    bit
     .0
+  where
+    n : ℕ
+    n = widthOfAll ps
+
+    bit : (j : ℕ) → j < paddingAt n + 0 → bitAt (bytesOf (bitsOfAll ps) ++ rest) (n + j) ≡ getD (bitsOfAll (zeros (paddingAt n) ∷ [])) j 0
+    bit j h =
+        packed-bit ps rest (n + j) (omega arith)
+        ∙ List·getD-eq-default (bitsOfAll ps) 0 (omega (arith, length-all ps))
+        ∙ sym (getD-zeros [] (paddingAt n) j)
 
 -- bits that are held are those of the fields
 pub held-bit : (s : List ℕ) (at : ℕ) (ps : List Part) → Holds s at ps → (j : ℕ) → j < widthOfAll ps → bitAt s (at + j) ≡ getD (bitsOfAll ps) j 0
@@ -185,14 +206,23 @@ unfolding Holds widthOfAll
 held-bit s at [] held = λ j h. absurd (omega arith)
 held-bit s at (p ∷ ps) held =
     by-places
-      (λ j. j < widthOfAll (p ∷ ps) → bitAt s (at + j) ≡ getD (bitsOfAll (p ∷ ps)) j 0)
-      (p .wide)
-      (λ j h l. sym (number-bit (bitAt s) at (p .wide) j (bit-lt s) h)
-        ∙ ap (λ (v : ℕ). v / 2 ^ (p .wide - suc j) % 2) (there-is s at (p .wide) (p .is) (held .0)) ∙ sym (getD-first p ps j h))
-      (λ j l. ap (bitAt s) (sym (add-assoc at (p .wide) j)) ∙ held-bit s (at + p .wide) ps (held .1) j (omega arith) ∙ sym (getD-later p ps j))
+    (λ j. j < widthOfAll (p ∷ ps) → bitAt s (at + j) ≡ getD (bitsOfAll (p ∷ ps)) j 0)
+    (p .wide)
+    (λ j h l. first j h)
+    (λ j l. ap (bitAt s) (sym (add-assoc at (p .wide) j)) ∙ held-bit s (at + p .wide) ps (held .1) j (omega arith) ∙ sym (getD-later p ps j))
+  where
+    first : (j : ℕ) → j < p .wide → bitAt s (at + j) ≡ getD (bitsOfAll (p ∷ ps)) j 0
+    first j h =
+        sym (number-bit (bitAt s) at (p .wide) j (bit-lt s) h)
+        ∙ ap (λ (v : ℕ). v / 2 ^ (p .wide - suc j) % 2) (there-is s at (p .wide) (p .is) (held .0))
+        ∙ sym (getD-first p ps j h)
 
--- the bits of the fields and of the padding fill whole bytes
-pub width-padded : (ps : List Part) → widthOfAll (ps ++ (zeros (paddingAt (widthOfAll ps)) ∷ [])) ≡ 8 * ((widthOfAll ps + 7) / 8)
+-- the fields, and zero bits up to a whole byte
+abbrev pub padded : List Part → List Part
+padded ps = ps ++ (zeros (paddingAt (widthOfAll ps)) ∷ [])
+
+-- they fill whole bytes
+pub width-padded : (ps : List Part) → widthOfAll (padded ps) ≡ 8 * ((widthOfAll ps + 7) / 8)
 unfolding widthOfAll
 width-padded ps = width-append ps (zeros (paddingAt (widthOfAll ps)) ∷ []) ∙ omega arith
 
@@ -206,22 +236,31 @@ packed-byte ps i h = byte-from ((length (bitsOfAll ps) + 7) / 8) (λ j. getD (bi
 pub begins-packed : (s : List ℕ) (ps : List Part) → Bytes s → (widthOfAll ps + 7) / 8 ≤ length s
     → ((j : ℕ) → j < 8 * ((widthOfAll ps + 7) / 8) → bitAt s j ≡ getD (bitsOfAll ps) j 0)
     → take ((widthOfAll ps + 7) / 8) s ≡ bytesOf (bitsOfAll ps)
-begins-packed s ps bytes room bits =
-    let long = length-take-le ((widthOfAll ps + 7) / 8) s room in
-    ext-getD 0 (take ((widthOfAll ps + 7) / 8) s) (bytesOf (bitsOfAll ps)) (long ∙ sym (length-packed ps))
-      (λ i h. let within : i < (widthOfAll ps + 7) / 8 = rw long at h in
-        getD-take ((widthOfAll ps + 7) / 8) s i 0 within
+begins-packed s ps bytes room bits = ext-getD 0 (take n s) (bytesOf (bitsOfAll ps)) (long ∙ sym (length-packed ps)) (λ i h. byte i (rw long at h))
+  where
+    n : ℕ
+    n = (widthOfAll ps + 7) / 8
+
+    long : length (take n s) ≡ n
+    long = length-take-le n s room
+
+    byte : (i : ℕ) → i < n → getD (take n s) i 0 ≡ getD (bytesOf (bitsOfAll ps)) i 0
+    byte i h =
+        getD-take n s i 0 h
         ∙ sym (byte-again s i bytes (omega arith))
         ∙ number-same (bitAt s) (λ j. getD (bitsOfAll ps) j 0) (8 * i) 8 (λ j l u. bits j (omega arith))
-        ∙ sym (packed-byte ps i within))
+        ∙ sym (packed-byte ps i h)
 
 -- bytes that hold the fields and zero padding begin with the packed fields
 pub held-packed : (s : List ℕ) (ps : List Part) → Bytes s → Holds s 0 ps → fieldAt s (widthOfAll ps) (paddingAt (widthOfAll ps)) ≡ Field.There 0
     → take ((widthOfAll ps + 7) / 8) s ≡ bytesOf (bitsOfAll ps)
 unfolding Holds
 held-packed s ps bytes held padding =
-    let whole : Holds s 0 (ps ++ (zeros (paddingAt (widthOfAll ps)) ∷ [])) =
-      holds-append s 0 ps (zeros (paddingAt (widthOfAll ps)) ∷ []) held (rw (zero-add (widthOfAll ps)) (padding, tt)) in
-    begins-packed s ps bytes (omega (arith, there-ends s (widthOfAll ps) (paddingAt (widthOfAll ps)) 0 padding))
-      (λ j h. ap (bitAt s) (sym (zero-add j)) ∙ held-bit s 0 (ps ++ (zeros (paddingAt (widthOfAll ps)) ∷ [])) whole j (rw (width-padded ps) h)
-        ∙ getD-zeros ps (paddingAt (widthOfAll ps)) j)
+    begins-packed s ps bytes (omega (arith, there-ends s (widthOfAll ps) (paddingAt (widthOfAll ps)) 0 padding)) bit
+  where
+    whole : Holds s 0 (padded ps)
+    whole = holds-append s 0 ps (zeros (paddingAt (widthOfAll ps)) ∷ []) held (rw (zero-add (widthOfAll ps)) (padding, tt))
+
+    bit : (j : ℕ) → j < 8 * ((widthOfAll ps + 7) / 8) → bitAt s j ≡ getD (bitsOfAll ps) j 0
+    bit j h =
+        ap (bitAt s) (sym (zero-add j)) ∙ held-bit s 0 (padded ps) whole j (rw (width-padded ps) h) ∙ getD-zeros ps (paddingAt (widthOfAll ps)) j

@@ -15,8 +15,9 @@ use Rattle.bits.specs.Digits.{Bitwise, bit-lt, number-same}
 use Rattle.bits.specs.Putting.{bitPut, putAt, putAll}
 use Rattle.bits.specs.Holding.{Bytes, widthOfAll, Narrow}
 use Rattle.bits.specs.Lists.{by-places, getD-first, getD-later, zeros, getD-zeros}
-use Rattle.bits.specs.Packing.{length-from, from-bytes, bit-of-bytes, byte-again, begins-packed, width-padded}
+use Rattle.bits.specs.Packing.{narrow-append, length-from, from-bytes, bit-of-bytes, byte-again, padded, width-padded, begins-packed}
 
+-- what holds of both holds of either
 by-cond : {A : Type 0} (P : A → Type 0) (t : Bool) (a b : A) → P a → P b → P (cond t a b)
 by-cond P true a b first second = first
 by-cond P false a b first second = second
@@ -31,8 +32,8 @@ put-lt : (s : List ℕ) (at w v : ℕ) → Bitwise (bitPut s at w v)
 unfolding bitPut
 put-lt s at w v j =
     by-cond (λ b. b < 2) (leb at j && ltb j (at + w)) (v / 2 ^ (at + w - suc j) % 2) (bitAt s j)
-      (mod-lt (v / 2 ^ (at + w - suc j)) (omega arith))
-      (bit-lt s j)
+    (mod-lt (v / 2 ^ (at + w - suc j)) (omega arith))
+    (bit-lt s j)
 
 -- putting keeps the length
 pub length-put : (s : List ℕ) (at w v : ℕ) → length (putAt s at w v) ≡ length s
@@ -47,9 +48,10 @@ pub put-bit : (s : List ℕ) (at w v j : ℕ) → w ≤ widest → at + w ≤ 8 
 unfolding putAt bitPut
 put-bit s at w v j narrow room h =
     rw (le-leb w widest narrow, le-leb (at + w) (8 * length s) room)
-    ( bit-of-bytes (length s) (bitPut s at w v) (at + j) (put-lt s at w v) (omega arith)
-      ∙ rw (le-leb at (at + j) (omega arith), lt-ltb (at + j) (at + w) (omega arith)) (ap (λ (k : ℕ). v / 2 ^ k % 2) (omega arith))
-    )
+    (bit-of-bytes (length s) (bitPut s at w v) (at + j) (put-lt s at w v) (omega arith) ∙ bit)
+  where
+    bit : bitPut s at w v (at + j) ≡ v / 2 ^ (w - suc j) % 2
+    bit = rw (le-leb at (at + j) (omega arith), lt-ltb (at + j) (at + w) (omega arith)) (ap (λ (k : ℕ). v / 2 ^ k % 2) (omega arith))
 
 -- a bit outside the field stays: it comes before it, or after its end
 pub put-kept : (s : List ℕ) (at w v j : ℕ) → j < 8 * length s → (at ≤ j → at + w ≤ j) → bitAt (putAt s at w v) j ≡ bitAt s j
@@ -95,54 +97,73 @@ pub put-all-bit : (s : List ℕ) (at : ℕ) (ps : List Part) → Narrow ps → a
 unfolding putAll widthOfAll Narrow
 put-all-bit s at [] narrow room = λ j h. absurd (omega arith)
 put-all-bit s at (p ∷ ps) narrow room =
-    let put = putAt s at (p .wide) (p .is) in
-    let long : length (putAt s at (p .wide) (p .is)) ≡ length s = length-put s at (p .wide) (p .is) in
     by-places
-      (λ j. j < widthOfAll (p ∷ ps) → bitAt (putAll s at (p ∷ ps)) (at + j) ≡ getD (bitsOfAll (p ∷ ps)) j 0)
-      (p .wide)
-      (λ j h l. put-all-kept put (at + p .wide) ps (at + j) (omega arith) (λ u. omega arith)
-        ∙ put-bit s at (p .wide) (p .is) j (narrow .0) (omega arith) h ∙ sym (getD-first p ps j h))
-      (λ j l. ap (bitAt (putAll s at (p ∷ ps))) (sym (add-assoc at (p .wide) j))
-        ∙ put-all-bit put (at + p .wide) ps (narrow .1) (omega arith) j (omega arith) ∙ sym (getD-later p ps j))
+    (λ j. j < widthOfAll (p ∷ ps) → bitAt (putAll s at (p ∷ ps)) (at + j) ≡ getD (bitsOfAll (p ∷ ps)) j 0)
+    (p .wide)
+    (λ j h l. first j h)
+    (λ j l. after j ∙ put-all-bit put (at + p .wide) ps (narrow .1) (rw long (omega arith)) j (omega arith) ∙ sym (getD-later p ps j))
+  where
+    put : List ℕ
+    put = putAt s at (p .wide) (p .is)
 
-narrow-append : (ps qs : List Part) → Narrow ps → Narrow qs → Narrow (ps ++ qs)
-unfolding Narrow
-narrow-append [] qs first second = second
-narrow-append (p ∷ ps) qs first second = (first .0, narrow-append ps qs (first .1) second)
+    long : length put ≡ length s
+    long = length-put s at (p .wide) (p .is)
+
+    first : (j : ℕ) → j < p .wide → bitAt (putAll s at (p ∷ ps)) (at + j) ≡ getD (bitsOfAll (p ∷ ps)) j 0
+    first j h =
+        put-all-kept put (at + p .wide) ps (at + j) (rw long (omega arith)) (λ u. omega arith)
+        ∙ put-bit s at (p .wide) (p .is) j (narrow .0) (omega arith) h
+        ∙ sym (getD-first p ps j h)
+
+    after : (j : ℕ) → bitAt (putAll s at (p ∷ ps)) (at + (p .wide + j)) ≡ bitAt (putAll s at (p ∷ ps)) (at + p .wide + j)
+    after j = ap (bitAt (putAll s at (p ∷ ps))) (sym (add-assoc at (p .wide) j))
 
 -- bytes with the same bits from byte n on are the same from there on
 same-after : (s t : List ℕ) (n : ℕ) → Bytes s → Bytes t → length s ≡ length t → ((j : ℕ) → 8 * n ≤ j → j < 8 * length s → bitAt s j ≡ bitAt t j)
     → drop n s ≡ drop n t
 same-after s t n bytes bytes' long bits =
     ext-getD 0 (drop n s) (drop n t) (length-drop n s ∙ ap (λ (k : ℕ). k - n) long ∙ sym (length-drop n t))
-      (λ i h. let within : n + i < length s = omega (arith, length-drop n s) in
+    (λ i h. byte i (omega (arith, length-drop n s)))
+  where
+    byte : (i : ℕ) → n + i < length s → getD (drop n s) i 0 ≡ getD (drop n t) i 0
+    byte i h =
         getD-drop n s i 0
-        ∙ sym (byte-again s (n + i) bytes within)
+        ∙ sym (byte-again s (n + i) bytes h)
         ∙ number-same (bitAt s) (bitAt t) (8 * (n + i)) 8 (λ j l u. bits j (omega arith) (omega arith))
         ∙ byte-again t (n + i) bytes' (omega arith)
-        ∙ sym (getD-drop n t i 0))
+        ∙ sym (getD-drop n t i 0)
 
 -- fields and zero padding, put one after another into bytes that have room for them
 pub put-packed : (s : List ℕ) (ps : List Part) → Bytes s → Narrow ps → (widthOfAll ps + 7) / 8 ≤ length s
     → putAll s 0 (ps ++ (record { wide = paddingAt (widthOfAll ps); is = 0 } ∷ [])) ≡ bytesOf (bitsOfAll ps) ++ drop ((widthOfAll ps + 7) / 8) s
 unfolding Narrow
-put-packed s ps bytes narrow room =
-    sym (take-append-drop n put)
-    ∙ ap₂ _++_
-      (begins-packed put ps (put-all-bytes s 0 all bytes) (rw long room)
-        (λ j h. ap (bitAt put) (sym (zero-add j)) ∙ put-all-bit s 0 all fits (omega (arith, wide)) j (rw wide h)
-          ∙ getD-zeros ps (paddingAt (widthOfAll ps)) j))
-      (same-after put s n (put-all-bytes s 0 all bytes) bytes long (λ j l h. put-all-kept s 0 all j (rw long at h) (λ u. omega (arith, wide))))
+put-packed s ps bytes narrow room = sym (take-append-drop n put) ∙ ap₂ _++_ front back
   where
     n : ℕ
     n = (widthOfAll ps + 7) / 8
-    all : List Part
-    all = ps ++ (zeros (paddingAt (widthOfAll ps)) ∷ [])
+
     put : List ℕ
-    put = putAll s 0 all
-    fits : Narrow all
-    fits = narrow-append ps (zeros (paddingAt (widthOfAll ps)) ∷ []) narrow (omega arith, tt)
+    put = putAll s 0 (padded ps)
+
     long : length put ≡ length s
-    long = length-put-all s 0 all
-    wide : widthOfAll all ≡ 8 * n
+    long = length-put-all s 0 (padded ps)
+
+    wide : widthOfAll (padded ps) ≡ 8 * n
     wide = width-padded ps
+
+    narrow' : Narrow (padded ps)
+    narrow' = narrow-append ps (zeros (paddingAt (widthOfAll ps)) ∷ []) narrow (omega arith, tt)
+
+    bytes' : Bytes put
+    bytes' = put-all-bytes s 0 (padded ps) bytes
+
+    bit : (j : ℕ) → j < 8 * n → bitAt put j ≡ getD (bitsOfAll ps) j 0
+    bit j h =
+        ap (bitAt put) (sym (zero-add j)) ∙ put-all-bit s 0 (padded ps) narrow' (omega (arith, wide)) j (rw wide h)
+        ∙ getD-zeros ps (paddingAt (widthOfAll ps)) j
+
+    front : take n put ≡ bytesOf (bitsOfAll ps)
+    front = begins-packed put ps bytes' (rw long room) bit
+
+    back : drop n put ≡ drop n s
+    back = same-after put s n bytes' bytes long (λ j l h. put-all-kept s 0 (padded ps) j (rw long at h) (λ u. omega (arith, wide)))
