@@ -1,3 +1,4 @@
+-- Scripts there and back, both ways round.
 -- "table and labels to script and back give the same table and labels"
 pub mod WrittenAnswers
 pub mod WrittenTwos
@@ -10,3 +11,12 @@ pub mod WrittenEntries
 pub mod WrittenTable
 pub mod WrittenLabels
 pub mod WrittenAgain
+pub mod ReadGiving
+pub mod ReadNumbers
+pub mod ReadStanding
+pub mod ReadEntries
+pub mod ReadSoFar
+pub mod ReadFaults
+pub mod ReadTable
+pub mod ReadBlock
+pub mod ReadAgain

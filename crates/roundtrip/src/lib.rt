@@ -1,1 +1,1 @@
-// Scripts there and back: what is written is read again. It has no code: its statements stand in specs/.
+// A script read and written again, and written and read again. It has no code: its statements stand in specs/.
