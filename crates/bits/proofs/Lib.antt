@@ -1,2 +1,4 @@
 -- What the proofs of several functions share.
 pub mod Complement
+pub mod Shifts
+pub mod Room

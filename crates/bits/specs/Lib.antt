@@ -6,3 +6,4 @@ pub mod Putting
 pub mod Holding
 pub mod Reading
 pub mod Packed
+pub mod Window

@@ -1,6 +1,8 @@
 // Fields of 1 to 48 bits in bytes, taken and put, and whole numbers as 48 bits.
+mod putting;
 mod twos;
 
+pub use putting::put;
 pub use twos::signed;
 pub use twos::unsigned;
 
