@@ -20,6 +20,17 @@ unfoldable pub Fitting : List Part → Type 0
 Fitting [] = Unit
 Fitting (p ∷ ps) = (p .wide ≤ widest) × ((p .is < 2 ^ p .wide) × Fitting ps)
 
+-- no field is wider than the widest
+unfoldable pub Narrow : List Part → Type 0
+Narrow [] = Unit
+Narrow (p ∷ ps) = (p .wide ≤ widest) × Narrow ps
+
+-- numbers that fit stand in fields that are no wider
+pub fitting-narrow : (ps : List Part) → Fitting ps → Narrow ps
+unfolding Fitting Narrow
+fitting-narrow [] fits = tt
+fitting-narrow (p ∷ ps) fits = (fits .0, fitting-narrow ps (fits .1 .1))
+
 -- the fields stand one after another from bit `at` on
 unfoldable pub Holds : List ℕ → ℕ → List Part → Type 0
 Holds s at [] = Unit

@@ -4,7 +4,7 @@ ghost use mathlib.Core.Bool.{_&&_};
 ghost use Prim.Native.Nat.{_+_, _*_, _<_, _≤_, _^_};
 ghost use lib.Dec.{leb};
 ghost use lib.ListN.{length};
-ghost use Rattle.bits.specs.Bits.{widest, numberFrom, bitAt};
+ghost use Rattle.bits.specs.Bits.{widest, bitsAt};
 ghost use Rattle.bits.specs.Putting.{putAt};
 ghost use Rattle.bits.specs.Window.{replaced, byteOf, stored};
 
@@ -27,18 +27,18 @@ fn has_room(len: usize, at: usize, w: usize) -> bool
     used + w <= 8 * left
 }
 
-// The number that `count` bytes make from byte `first` on.
+// The number that `count` bytes make from byte `first` on, at most seven of them.
 fn window_of(s: &[u8], first: usize, count: usize) -> u64
     requires { ⌜ (count ≤ 7) × (first + count ≤ length (now s)) ⌝ }
-    ensures { λ r. ⌜ r ≡ numberFrom (bitAt (now (s .entry))) (8 * first) (8 * count) ⌝ }
+    ensures { λ r. ⌜ r ≡ bitsAt (now (s .entry)) (8 * first) (8 * count) ⌝ }
 {
-    let mut window: u64 = 0;
+    let mut number: u64 = 0;
     let mut i: usize = 0;
     while i < count {
-        window = window * 256 + s[first + i] as u64;
+        number = number * 256 + s[first + i] as u64;
         i += 1;
     }
-    window
+    number
 }
 
 // The window with v's low w bits before its last `spare` bits.

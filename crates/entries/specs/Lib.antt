@@ -1,0 +1,2 @@
+-- One entry, read by what is lent of the table so far.
+pub mod Entering

@@ -1,0 +1,2 @@
+-- How far reading a script came.
+pub mod Stages

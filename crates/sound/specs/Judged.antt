@@ -1,0 +1,23 @@
+-- An operand judged by what is lent of a table: the sorts of its entries as numbers, which imports are events, and its counts.
+use mathlib.Core.Bool.{Bool, false, cond}
+use mathlib.Core.List.{List}
+use Prim.Native.Nat.{ℕ}
+use lib.Dec.{eqb, ltb}
+use lib.ListN.{getD}
+use Rattle.values.specs.Numbers.{inRange}
+use Rattle.refusals.specs.declared.Refusal.{Refusal}
+use Rattle.refusals.specs.declared.Answer.{Answer}
+use Rattle.refusals.specs.Numbering.{unless, andThen}
+use Rattle.table.specs.declared.Sort.{Sort}
+use Rattle.table.specs.Kinds.{sortNumber, sameSort}
+use Rattle.kinds.specs.declared.Operand.{Operand}
+
+-- "7: operand not an earlier entry, import ≥ q, or variable ≥ v"; "8: operand or import of the wrong sort"; "13: number outside 48 bits"
+unfoldable pub judgedBy : List ℕ → List Bool → ℕ → ℕ → ℕ → Operand → Answer
+judgedBy sorts events q v k Operand.Nothing = Answer.Accepted
+judgedBy sorts events q v k (Operand.Entry s a) =
+    andThen (unless (ltb a k) Refusal.Operand) (unless (eqb (getD sorts a 0) (sortNumber s)) Refusal.Sort)
+judgedBy sorts events q v k (Operand.Imported s i) =
+    andThen (unless (ltb i q) Refusal.Operand) (unless (sameSort (cond (getD events i false) Sort.Event Sort.Condition) s) Refusal.Sort)
+judgedBy sorts events q v k (Operand.Variable x) = unless (ltb x v) Refusal.Operand
+judgedBy sorts events q v k (Operand.Constant z) = unless (inRange z) Refusal.Range

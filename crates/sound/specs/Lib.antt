@@ -1,0 +1,2 @@
+-- Operands judged by what is lent of a table.
+pub mod Judged
