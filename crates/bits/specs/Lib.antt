@@ -11,3 +11,4 @@ pub mod Packing
 pub mod Putall
 pub mod Reading
 pub mod Packed
+pub mod Window

@@ -1,8 +1,10 @@
 // Fields of 1 to 48 bits in bytes, taken and put, and whole numbers as 48 bits.
+mod putting;
 mod taking;
 mod twos;
 
 pub use taking::byte_at;
+pub use putting::put;
 pub use taking::field_at;
 pub use twos::signed;
 pub use twos::unsigned;

@@ -1,0 +1,25 @@
+-- The window has 56 bits at most, so nothing is shifted out.
+use borrow.Author.Needs.{needs}
+use native.Mathlib.Omega.{arith}
+use Rattle.bits.proofs.Shifts.{one-positive, front-small, whole-small, whole-replaced}
+use Rattle.bits.proofs.putting.replace.Statement.{statement}
+use Rattle.bits.proofs.putting.replace.Tie as tie
+
+rem-with : tie.Need-rem-with
+rem-with c = one-positive (c .args .w) (omega arith)
+
+add-with : tie.Need-add-with
+add-with c = record { fits = front-small (c .args .window) (c .args .w) (c .args .spare) (c .args .v) (c .pre .0) (c .pre .1) }
+
+rem-result : tie.Need-rem-result
+rem-result c = one-positive (c .args .spare) (omega arith)
+
+add-result : tie.Need-add-result
+add-result c = record { fits = whole-small (c .args .window) (c .args .w) (c .args .spare) (c .args .v) (c .pre .0) (c .pre .1) }
+
+returns : tie.Need-returns
+returns c = whole-replaced (c .args .window) (c .args .w) (c .args .spare) (c .args .v) (c .pre .0) (c .pre .1)
+
+pub replace-spec : {M : Type 1} → statement M
+replace-spec =
+    tie.close (tie.spec (λ c. search needs) (λ c. search needs) (λ c. search needs) (λ c. search needs) rem-with add-with (λ c. search needs) (λ c. search needs) rem-result add-result returns)
