@@ -31,10 +31,11 @@ window-of-requires c κs = omega (arith, room (c .before))
 replace-requires : tie.Need-replace-requires
 replace-requires c κs =
     let a = c .before .before .before .before .before .before .args in
-    let h = room (c .before .before .before) in
-    (rw (c .before .window-of .ensures)
-    (omega (arith, bits-lt (a .s .now) (8 * (a .at / 8)) (8 * bytesFor (a .at) (a .w)), pow-mono {i = 8 * bytesFor (a .at) (a .w)} {j = 56} (omega arith))),
-    omega arith)
+    let h = room (c .before .before .before) in (
+      rw (c .before .window-of .ensures)
+          (omega (arith, bits-lt (a .s .now) (8 * (a .at / 8)) (8 * bytesFor (a .at) (a .w)), pow-mono {i = 8 * bytesFor (a .at) (a .w)} {j = 56} (omega arith))),
+      omega arith,
+    )
 
 store-requires : tie.Need-store-requires
 store-requires c κs = omega (arith, room (c .before .before .before .before))
@@ -47,9 +48,9 @@ returns c =
     let n : ℕ = bytesFor (a .at) (a .w) in
     c .before .before .store .ensures
     ∙ ap (λ (x : ℕ). stored (a .s .now) (a .at / 8) (byteOf x n) n)
-      (b .replace .ensures ∙ ap (λ (x : ℕ). replaced x (a .w) (spareAfter (a .at) (a .w)) (a .v)) (b .before .before .window-of .ensures))
+    (b .replace .ensures ∙ ap (λ (x : ℕ). replaced x (a .w) (spareAfter (a .at) (a .w)) (a .v)) (b .before .before .window-of .ensures))
     ∙ window-put (a .s .now) (a .at) (a .w) (a .v)
-      (λ i k. omega (arith, b .before .before .before .before .before .before .slice-known .given i)) (h .0) (h .1)
+    (λ i k. omega (arith, b .before .before .before .before .before .before .slice-known .given i)) (h .0) (h .1)
 
 returns-2 : tie.Need-returns-2
 returns-2 c =
