@@ -1,2 +1,3 @@
--- What reading the labels of a script answers.
+-- What reading the labels of a script answers, and laws of it.
 pub mod Among
+pub mod Laws
