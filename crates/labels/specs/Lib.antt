@@ -1,3 +1,4 @@
 -- What reading the labels of a script answers, and laws of it.
 pub mod Among
 pub mod Laws
+pub mod Passed
