@@ -2,6 +2,8 @@
 mod head;
 
 use refusals::Answer;
+use script::Label;
+use script::Span;
 use table::Table;
 
 // How far reading came: the table so far and the bit after it, or the refusal.
@@ -9,4 +11,12 @@ pub struct Stage {
     pub answer: Answer,
     pub at: usize,
     pub table: Table,
+}
+
+// A script read in one pass: its table, where its block of labels stands, and the label of one entry.
+pub struct Scan {
+    pub answer: Answer,
+    pub table: Table,
+    pub block: Span,
+    pub label: Label,
 }
