@@ -1,2 +1,3 @@
 -- How far reading a script came.
 pub mod Stages
+pub mod Heads

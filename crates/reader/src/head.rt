@@ -1,1 +1,77 @@
 // The head of a script: counts, the sorts of imports, the numbers that variables start with.
+use crate::Stage;
+use bits::Field;
+use refusals::Answer;
+use refusals::Refusal;
+use table::Table;
+use table::VariableSlot;
+use values::Number;
+ghost use mathlib.Core.Path.{_≡_};
+ghost use Prim.Native.Nat.{_≤_};
+ghost use Rattle.bits.specs.Reading as reading;
+ghost use Rattle.script.specs.Reader.{header, imports, variables, starting};
+ghost use Rattle.reader.specs.Stages.{reached};
+ghost use Rattle.reader.specs.Heads.{counts};
+
+// A refusal, with the empty table.
+fn refused(r: Refusal) -> Stage
+    ensures { λ stage. ⌜ reached stage ≡ reading.refused r ⌝ }
+{
+    Stage {
+        answer: Answer::Refused(r),
+        at: 0,
+        table: Table::empty(),
+    }
+}
+
+// "Import count q, 6 bits, 0 to 48. Variable count v, 6 bits, 0 to 32. Four zero bits.", from bit 16 on.
+fn counts(s: &[u8], n: usize) -> Stage
+    ensures { λ r. ⌜ reached r ≡ counts n (now (s .entry)) 16 ⌝ }
+{
+    let Field::There(q) = bits::field_at(s, 16, 6) else {
+        return refused(Refusal::Cut);
+    };
+    if Table::IMPORTS < q as usize {
+        return refused(Refusal::ImportCount);
+    }
+    let Field::There(v) = bits::field_at(s, 22, 6) else {
+        return refused(Refusal::Cut);
+    };
+    if Table::VARIABLES < v as usize {
+        return refused(Refusal::VariableCount);
+    }
+    let Field::There(zeros) = bits::field_at(s, 28, 4) else {
+        return refused(Refusal::Cut);
+    };
+    if zeros != 0 {
+        return refused(Refusal::HeaderBits);
+    }
+    let mut t = Table::empty();
+    t.n = n;
+    t.q = q as usize;
+    t.v = v as usize;
+    Stage {
+        answer: Answer::Accepted,
+        at: 32,
+        table: t,
+    }
+}
+
+// "Format number, 8 bits, 1. Entry count n, 8 bits, 1 to 128."
+pub(crate) fn header(s: &[u8]) -> Stage
+    ensures { λ r. ⌜ reached r ≡ header (now (s .entry)) 0 ⌝ }
+{
+    let Field::There(format) = bits::field_at(s, 0, 8) else {
+        return refused(Refusal::Cut);
+    };
+    if format != 1 {
+        return refused(Refusal::Format);
+    }
+    let Field::There(n) = bits::field_at(s, 8, 8) else {
+        return refused(Refusal::Cut);
+    };
+    if n < 1 || Table::ENTRIES < n as usize {
+        return refused(Refusal::EntryCount);
+    }
+    counts(s, n as usize)
+}
