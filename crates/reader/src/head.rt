@@ -75,3 +75,26 @@ pub(crate) fn header(s: &[u8]) -> Stage
     }
     counts(s, n as usize)
 }
+
+// "q bits, one for each import: 1 an event, 0 a condition."
+pub(crate) fn imports(s: &[u8], at: usize, t: Table) -> Stage
+    requires { ⌜ (at ≤ 65536) × (t .q ≤ 48) ⌝ }
+    ensures { λ r. ⌜ reached r ≡ imports (t .q) 0 t (now (s .entry)) at ⌝ }
+{
+    let mut table = t;
+    let mut next = at;
+    let mut i: usize = 0;
+    while i < t.q {
+        let Field::There(bit) = bits::field_at(s, next, 1) else {
+            return refused(Refusal::Cut);
+        };
+        table.events[i] = bit == 1;
+        next += 1;
+        i += 1;
+    }
+    Stage {
+        answer: Answer::Accepted,
+        at: next,
+        table: table,
+    }
+}
