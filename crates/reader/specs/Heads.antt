@@ -1,5 +1,5 @@
 -- The head of a script, a stage at a time: what is left to read from a field on, and what an accepted head is like.
-use mathlib.Core.Bool.{Bool, true, false, _&&_}
+use mathlib.Core.Bool.{Bool, true, false, _&&_, _||_}
 use mathlib.Core.List.{List}
 use mathlib.Core.Path.{_≡_, refl, sym, _∙_, ap}
 use Prim.Native.Nat.{ℕ, zero, suc, _+_, _-_, _*_, _≤_, _<_}
@@ -46,3 +46,32 @@ module _ (q i : ℕ) (more : i < q) (t : Table) (s : List ℕ) (at : ℕ) where
 pub imports-done : (q i : ℕ) → q ≤ i → (t : Table) (s : List ℕ) (at : ℕ) → imports (q - i) i t s at ≡ got t at
 unfolding imports
 imports-done q i all t s at = rw (sub-eq-zero-of-le all)
+
+module _ (v x : ℕ) (more : x < v) (t : Table) (s : List ℕ) (at : ℕ) where
+  -- a variable whose first bit isn't there
+  pub variable-cut : fieldAt s at 1 ≡ Field.Missing → variables (v - x) x t s at ≡ refused Refusal.Cut
+  unfolding variables
+  variable-cut cut = rw (left-one x v more, cut)
+
+  module _ (bit : ℕ) (there : fieldAt s at 1 ≡ Field.There bit) where
+    -- a variable whose number isn't wholly there
+    pub number-cut : fieldAt s (at + 1) 48 ≡ Field.Missing → variables (v - x) x t s at ≡ refused Refusal.Cut
+    unfolding variables
+    number-cut cut = rw (left-one x v more, there, cut)
+
+    module _ (number : ℕ) (found : fieldAt s (at + 1) 48 ≡ Field.There number) where
+      -- a variable that starts undefined with a nonzero number
+      pub variable-refused : (eqb bit 1 || eqb number 0) ≡ false → variables (v - x) x t s at ≡ refused Refusal.Initial
+      unfolding variables
+      variable-refused bad = rw (left-one x v more, there, found, bad)
+
+      -- a variable, and then those that are left
+      pub variable-next : (eqb bit 1 || eqb number 0) ≡ true
+          → variables (v - x) x t s at ≡ variables (v - (x + 1)) (x + 1) (withVariable t x (starting bit number)) s (at + 1 + 48)
+      unfolding variables
+      variable-next good = rw (left-one x v more, there, found, good, add-one x)
+
+-- no variable is left
+pub variables-done : (v x : ℕ) → v ≤ x → (t : Table) (s : List ℕ) (at : ℕ) → variables (v - x) x t s at ≡ got t at
+unfolding variables
+variables-done v x all t s at = rw (sub-eq-zero-of-le all)

@@ -98,3 +98,45 @@ pub(crate) fn imports(s: &[u8], at: usize, t: Table) -> Stage
         table: table,
     }
 }
+
+// What a variable starts with: the number, or undefined.
+fn starting(bit: u64, v: u64) -> Number
+    ensures { λ r. ⌜ r ≡ starting bit v ⌝ }
+{
+    if bit == 1 {
+        return Number::Whole(bits::signed(v));
+    }
+    Number::Undefined
+}
+
+// "For each variable: 1 bit (1 = starts defined), then 48 bits, two's complement; all zero where it starts undefined."
+pub(crate) fn variables(s: &[u8], at: usize, t: Table) -> Stage
+    requires { ⌜ (at ≤ 65536) × (t .v ≤ 32) ⌝ }
+    ensures { λ r. ⌜ reached r ≡ variables (t .v) 0 t (now (s .entry)) at ⌝ }
+{
+    let mut table = t;
+    let mut next = at;
+    let mut x: usize = 0;
+    while x < t.v {
+        let Field::There(bit) = bits::field_at(s, next, 1) else {
+            return refused(Refusal::Cut);
+        };
+        next += 1;
+        let Field::There(number) = bits::field_at(s, next, 48) else {
+            return refused(Refusal::Cut);
+        };
+        if bit != 1 && number != 0 {
+            return refused(Refusal::Initial);
+        }
+        next += 48;
+        table.variables[x] = VariableSlot {
+            number: starting(bit, number),
+        };
+        x += 1;
+    }
+    Stage {
+        answer: Answer::Accepted,
+        at: next,
+        table: table,
+    }
+}
