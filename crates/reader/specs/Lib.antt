@@ -2,3 +2,4 @@
 pub mod Stages
 pub mod Scans
 pub mod ScanLaws
+pub mod Heads
