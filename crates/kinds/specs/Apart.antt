@@ -1,7 +1,7 @@
 -- An entry as a kind and up to three operands, and back.
 use mathlib.Core.Bool.{cond}
 use mathlib.Core.List.{List, [], _∷_}
-use Prim.Native.Nat.{ℕ}
+use Prim.Native.Nat.{ℕ, _%_}
 use lib.Dec.{ltb}
 use lib.IntN.{ℤ, pos}
 use lib.ListN.{getD, drop}
@@ -77,12 +77,12 @@ constantOf (Operand.Imported s i) = pos 0
 constantOf (Operand.Variable x) = pos 0
 constantOf (Operand.Constant z) = z
 
--- the operand of the same place, with the number that its field holds
+-- the operand of the same place, with the number that its field holds; entries, imports and variables keep 16 bits of it
 abbrev pub holding : Operand → ℕ → Operand
 holding Operand.Nothing v = Operand.Nothing
-holding (Operand.Entry s a) v = Operand.Entry s v
-holding (Operand.Imported s i) v = Operand.Imported s v
-holding (Operand.Variable x) v = Operand.Variable v
+holding (Operand.Entry s a) v = Operand.Entry s (v % 65536)
+holding (Operand.Imported s i) v = Operand.Imported s (v % 65536)
+holding (Operand.Variable x) v = Operand.Variable (v % 65536)
 holding (Operand.Constant z) v = Operand.Constant (signed v)
 
 -- an entry of each kind, in order, from the numbers of its operands

@@ -2,13 +2,16 @@
 use mathlib.Core.List.{List, [], _∷_, _++_}
 use mathlib.Core.Path.{_≡_, refl}
 use Prim.Native.Nat.{ℕ, _≤_, _<_}
+use native.Mathlib.Nat.{mod-eq-of-lt}
 use lib.Dec.{lit<}
 use lib.IntN.{ℤ}
 use lib.ListN.{List·getD-eq-default}
 use Rattle.table.specs.declared.Entry.{Entry}
 use Rattle.table.specs.declared.Entry.the-variants.{ImportedCondition, Defined, Pair, Not, Or, And, Implies, Less, Equal, ImportedEvent, Start, End, Both, Either, When, Constant, Variable, Sum, Difference, Clock, Value, Time, Update, Alarm, Property}
 use Rattle.table.specs.Kinds.{kindOf, operandsOf, sortOf, sortNumber}
-use Rattle.kinds.specs.Apart.{apartOf, namedBy, numberOf, constantOf, everyKind, madeOf, sortOfKind}
+use Rattle.table.specs.declared.Sort.{Sort}
+use Rattle.kinds.specs.declared.Operand.{Operand}
+use Rattle.kinds.specs.Apart.{apartOf, namedBy, numberOf, constantOf, holding, everyKind, madeOf, sortOfKind}
 
 -- the three operands, nothing left out, are those of the table of kinds
 pub operands-apart : (e : Entry) → namedBy (apartOf e .first) ++ (namedBy (apartOf e .second) ++ namedBy (apartOf e .third)) ≡ operandsOf e
@@ -131,3 +134,8 @@ made-apart (Time a) = refl
 made-apart (Update a x b) = refl
 made-apart (Alarm a) = refl
 made-apart (Property a) = refl
+
+-- a number of 16 bits is held as it is
+pub holding-small : (s : Sort) (a v : ℕ) → v < 65536 → (holding (Operand.Entry s a) v ≡ Operand.Entry s v)
+    × (holding (Operand.Imported s a) v ≡ Operand.Imported s v) × (holding (Operand.Variable a) v ≡ Operand.Variable v)
+holding-small s a v small = (rw (mod-eq-of-lt small), rw (mod-eq-of-lt small), rw (mod-eq-of-lt small))

@@ -1,6 +1,8 @@
 // Entries taken apart into a kind and operands, and made from them.
 ghost use mathlib.Core.Path.{_≡_};
-ghost use Rattle.kinds.specs.Apart.{apartOf, madeOf, sortOfKind, wideOf, noOperand, oneOperand, twoOperands, threeOperands};
+ghost use Rattle.kinds.specs.Apart.{apartOf, madeOf, sortOfKind, wideOf, numberOf, holding, noOperand, oneOperand, twoOperands, threeOperands};
+use bits::signed;
+use bits::unsigned;
 use table::Entry;
 use table::Sort;
 
@@ -48,6 +50,32 @@ impl Operand {
             Operand::Imported(s, i) => 6,
             Operand::Variable(x) => 5,
             Operand::Constant(z) => 48,
+        }
+    }
+
+    // The number in the operand's field; nothing has 0.
+    pub fn number(self) -> u64
+        ensures { λ r. ⌜ r ≡ numberOf self ⌝ }
+    {
+        match self {
+            Operand::Nothing => 0,
+            Operand::Entry(s, a) => a as u64,
+            Operand::Imported(s, i) => i as u64,
+            Operand::Variable(x) => x as u64,
+            Operand::Constant(z) => unsigned(z),
+        }
+    }
+
+    // The operand of the same place, with the number that its field holds.
+    pub fn holding(self, v: u64) -> Operand
+        ensures { λ r. ⌜ r ≡ holding self v ⌝ }
+    {
+        match self {
+            Operand::Nothing => Operand::Nothing,
+            Operand::Entry(s, a) => Operand::Entry(s, (v % 65536) as u16),
+            Operand::Imported(s, i) => Operand::Imported(s, (v % 65536) as u16),
+            Operand::Variable(x) => Operand::Variable((v % 65536) as u16),
+            Operand::Constant(z) => Operand::Constant(signed(v)),
         }
     }
 }
@@ -103,27 +131,76 @@ pub fn apart_of(e: Entry) -> Apart
     match e {
         Entry::ImportedCondition(i) => one(0, Operand::Imported(Sort::Condition, i)),
         Entry::Defined(a) => one(1, Operand::Entry(Sort::Condition, a)),
-        Entry::Pair(a, b) => two(2, Operand::Entry(Sort::Event, a), Operand::Entry(Sort::Event, b)),
+        Entry::Pair(a, b) => two(
+            2,
+            Operand::Entry(Sort::Event, a),
+            Operand::Entry(Sort::Event, b),
+        ),
         Entry::Not(a) => one(3, Operand::Entry(Sort::Condition, a)),
-        Entry::Or(a, b) => two(4, Operand::Entry(Sort::Condition, a), Operand::Entry(Sort::Condition, b)),
-        Entry::And(a, b) => two(5, Operand::Entry(Sort::Condition, a), Operand::Entry(Sort::Condition, b)),
-        Entry::Implies(a, b) => two(6, Operand::Entry(Sort::Condition, a), Operand::Entry(Sort::Condition, b)),
-        Entry::Less(a, b) => two(7, Operand::Entry(Sort::Number, a), Operand::Entry(Sort::Number, b)),
-        Entry::Equal(a, b) => two(8, Operand::Entry(Sort::Number, a), Operand::Entry(Sort::Number, b)),
+        Entry::Or(a, b) => two(
+            4,
+            Operand::Entry(Sort::Condition, a),
+            Operand::Entry(Sort::Condition, b),
+        ),
+        Entry::And(a, b) => two(
+            5,
+            Operand::Entry(Sort::Condition, a),
+            Operand::Entry(Sort::Condition, b),
+        ),
+        Entry::Implies(a, b) => two(
+            6,
+            Operand::Entry(Sort::Condition, a),
+            Operand::Entry(Sort::Condition, b),
+        ),
+        Entry::Less(a, b) => two(
+            7,
+            Operand::Entry(Sort::Number, a),
+            Operand::Entry(Sort::Number, b),
+        ),
+        Entry::Equal(a, b) => two(
+            8,
+            Operand::Entry(Sort::Number, a),
+            Operand::Entry(Sort::Number, b),
+        ),
         Entry::ImportedEvent(i) => one(9, Operand::Imported(Sort::Event, i)),
         Entry::Start(a) => one(10, Operand::Entry(Sort::Condition, a)),
         Entry::End(a) => one(11, Operand::Entry(Sort::Condition, a)),
-        Entry::Both(a, b) => two(12, Operand::Entry(Sort::Event, a), Operand::Entry(Sort::Event, b)),
-        Entry::Either(a, b) => two(13, Operand::Entry(Sort::Event, a), Operand::Entry(Sort::Event, b)),
-        Entry::When(a, b) => two(14, Operand::Entry(Sort::Event, a), Operand::Entry(Sort::Condition, b)),
+        Entry::Both(a, b) => two(
+            12,
+            Operand::Entry(Sort::Event, a),
+            Operand::Entry(Sort::Event, b),
+        ),
+        Entry::Either(a, b) => two(
+            13,
+            Operand::Entry(Sort::Event, a),
+            Operand::Entry(Sort::Event, b),
+        ),
+        Entry::When(a, b) => two(
+            14,
+            Operand::Entry(Sort::Event, a),
+            Operand::Entry(Sort::Condition, b),
+        ),
         Entry::Constant(z) => one(15, Operand::Constant(z)),
         Entry::Variable(x) => one(16, Operand::Variable(x)),
-        Entry::Sum(a, b) => two(17, Operand::Entry(Sort::Number, a), Operand::Entry(Sort::Number, b)),
-        Entry::Difference(a, b) => two(18, Operand::Entry(Sort::Number, a), Operand::Entry(Sort::Number, b)),
+        Entry::Sum(a, b) => two(
+            17,
+            Operand::Entry(Sort::Number, a),
+            Operand::Entry(Sort::Number, b),
+        ),
+        Entry::Difference(a, b) => two(
+            18,
+            Operand::Entry(Sort::Number, a),
+            Operand::Entry(Sort::Number, b),
+        ),
         Entry::Clock => none(19),
         Entry::Value(i) => one(20, Operand::Imported(Sort::Event, i)),
         Entry::Time(a) => one(21, Operand::Entry(Sort::Event, a)),
-        Entry::Update(a, x, b) => three(22, Operand::Entry(Sort::Event, a), Operand::Variable(x), Operand::Entry(Sort::Number, b)),
+        Entry::Update(a, x, b) => three(
+            22,
+            Operand::Entry(Sort::Event, a),
+            Operand::Variable(x),
+            Operand::Entry(Sort::Number, b),
+        ),
         Entry::Alarm(a) => one(23, Operand::Entry(Sort::Event, a)),
         Entry::Property(a) => one(24, Operand::Entry(Sort::Condition, a)),
     }
