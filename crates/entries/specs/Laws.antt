@@ -16,7 +16,7 @@ use Rattle.bits.specs.declared.Field.{Field}
 use Rattle.bits.specs.Bits.{fieldAt}
 use Rattle.bits.specs.Packing.{there-lt}
 use Rattle.bits.specs.Twos.{signed}
-use Rattle.bits.specs.Reading.{Got, got, refused, give, onward, judged, taken, field}
+use Rattle.bits.specs.Reading.{Got, got, refused, onward, judged, taken, field}
 use Rattle.table.specs.declared.Sort.{Sort}
 use Rattle.table.specs.declared.Entry.{Entry}
 use Rattle.table.specs.declared.Entry.the-variants.{ImportedCondition, Defined, Pair, Not, Or, And, Implies, Less, Equal, ImportedEvent, Start, End, Both, Either, When, Constant, Variable, Sum, Difference, Clock, Value, Time, Update, Alarm, Property}
