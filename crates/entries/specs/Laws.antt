@@ -11,7 +11,7 @@ use lib.IntN.{ℤ, pos}
 use lib.ListN.{getD}
 use Rattle.refusals.specs.declared.Refusal.{Refusal}
 use Rattle.refusals.specs.declared.Answer.{Answer}
-use Rattle.refusals.specs.Numbering.{unless, andThen}
+use Rattle.refusals.specs.Numbering.{unless}
 use Rattle.bits.specs.declared.Field.{Field}
 use Rattle.bits.specs.Bits.{fieldAt}
 use Rattle.bits.specs.Packing.{there-lt}
@@ -21,17 +21,17 @@ use Rattle.table.specs.declared.Sort.{Sort}
 use Rattle.table.specs.declared.Entry.{Entry}
 use Rattle.table.specs.declared.Entry.the-variants.{ImportedCondition, Defined, Pair, Not, Or, And, Implies, Less, Equal, ImportedEvent, Start, End, Both, Either, When, Constant, Variable, Sum, Difference, Clock, Value, Time, Update, Alarm, Property}
 use Rattle.table.specs.declared.Table.{Table}
-use Rattle.table.specs.Kinds.{entry, imported, variable, kindOf, operandsOf, sortOf, sortNumber}
+use Rattle.table.specs.Kinds.{entry, imported, variable, kindOf, operandsOf}
 use Rattle.table.specs.Kinds as table
 use Rattle.table.specs.Below.{noneBelow, none-there}
-use Rattle.table.specs.Tables.{entryAt, isEvent, importSort}
 use Rattle.table.specs.Faults.{operandFault}
 use Rattle.script.specs.Operands.{widthOf, constantField}
 use Rattle.script.specs.Reader.{operand, bare, one, two, three, kinds}
 use Rattle.script.specs.Reader as reader
 use Rattle.kinds.specs.declared.Operand.{Operand}
-use Rattle.kinds.specs.Apart.{apartOf, madeOf, oneOperand, twoOperands, threeOperands}
-use Rattle.sound.specs.Judged.{judgedBy}
+use Rattle.kinds.specs.declared.Apart.{Apart}
+use Rattle.kinds.specs.Apart.{apartOf, madeOf}
+use Rattle.sound.specs.Laws.{Sorts, judged-by}
 use Rattle.entries.specs.Entering.{operandBy, operandsBy, entryBy}
 
 -- a value that is kept was accepted, and is the one that was read
@@ -70,11 +70,6 @@ pub onward-same : {A B : Type 0} (m : Got A) (f g : A → ℕ → Got B) → ((a
 onward-same (got a next) f g same = same a next refl
 onward-same (refused r) f g same = refl
 
--- the second test counts only where the first is passed
-then-same : (passed : Bool) (r : Refusal) (x y : Answer) → (passed ≡ true → x ≡ y) → andThen (unless passed r) x ≡ andThen (unless passed r) y
-then-same true r x y same = same refl
-then-same false r x y same = refl
-
 -- a test that is not refuted holds
 not-refuted : (b : Bool) → (T (not b) → ⊥) → b ≡ true
 not-refuted true no-way = refl
@@ -85,9 +80,9 @@ passed-holds : (b : Bool) (r : Refusal) → unless b r ≡ Answer.Accepted → b
 passed-holds true r e = refl
 passed-holds false r e = let z : _≡_ {A = ℕ} 0 1 = cc in absurd (omega arith)
 
--- the sorts that are lent are those of the entries before k
-abbrev pub SortsOf : Table → ℕ → List ℕ → Type 0
-SortsOf t k sorts = (a : ℕ) → a < k → getD sorts a 0 ≡ sortNumber (sortOf (entryAt t a))
+-- a kind and its operands
+abbrev places : ℕ → Operand → Operand → Operand → Apart
+places kind o p r = record { kind = kind; first = o; second = p; third = r }
 
 -- the entry that is made of a kind is of that kind
 kind-of-made : (kind : ℕ) → kind < 25 → kindOf (madeOf kind 0 0 0 (pos 0)) ≡ kind
@@ -96,29 +91,26 @@ kind-of-made kind h =
     eqb-true (kindOf (madeOf kind 0 0 0 (pos 0))) kind
     (not-refuted (eqb (kindOf (madeOf kind 0 0 0 (pos 0))) kind) (none-there 25 (λ i. not (eqb (kindOf (madeOf i 0 0 0 (pos 0))) i)) tt kind h))
 
-module _ (t : Table) (sorts : List ℕ) (k : ℕ) (lent : SortsOf t k sorts) where
+module _ (t : Table) (sorts : List ℕ) (k : ℕ) (lent : Sorts t k sorts) where
   -- an operand's place, read and judged by what is lent as it is by the table
   abbrev Alike : Operand → (ℕ → table.Operand) → Type 0
   Alike o named = (s : List ℕ) (at : ℕ) → operandBy sorts (t .events) (t .q) (t .v) k o s at ≡ operand t k named s at
 
   alike-entry : (so : Sort) (a : ℕ) → Alike (Operand.Entry so a) (entry so)
-  unfolding operandBy operand judgedBy operandFault
-  alike-entry so a s at =
-      field-same Refusal.Cut 7 _ _ s at
-      (λ v h. rw (mod-eq-of-lt {n = v} {m = 65536} (omega arith))
-      (then-same (ltb v k) Refusal.Operand _ _ (λ passed. ap (λ (n : ℕ). unless (eqb n (sortNumber so)) Refusal.Sort) (lent v (ltb-true v k passed)))))
+  unfolding operandBy operand
+  alike-entry so a s at = field-same Refusal.Cut 7 _ _ s at (λ v h. rw (mod-eq-of-lt {n = v} {m = 65536} (omega arith)) (judged-by t k sorts lent (entry so v)))
 
   alike-import : (so : Sort) (i : ℕ) → Alike (Operand.Imported so i) (imported so)
-  unfolding operandBy operand judgedBy operandFault importSort isEvent
-  alike-import so i s at = field-same Refusal.Cut 6 _ _ s at (λ v h. rw (mod-eq-of-lt {n = v} {m = 65536} (omega arith)))
+  unfolding operandBy operand
+  alike-import so i s at = field-same Refusal.Cut 6 _ _ s at (λ v h. rw (mod-eq-of-lt {n = v} {m = 65536} (omega arith)) (judged-by t k sorts lent (imported so v)))
 
   alike-variable : (x : ℕ) → Alike (Operand.Variable x) variable
-  unfolding operandBy operand judgedBy operandFault
-  alike-variable x s at = field-same Refusal.Cut 5 _ _ s at (λ v h. rw (mod-eq-of-lt {n = v} {m = 65536} (omega arith)))
+  unfolding operandBy operand
+  alike-variable x s at = field-same Refusal.Cut 5 _ _ s at (λ v h. rw (mod-eq-of-lt {n = v} {m = 65536} (omega arith)) (judged-by t k sorts lent (variable v)))
 
   alike-constant : (z : ℤ) → Alike (Operand.Constant z) constantField
-  unfolding operandBy operand judgedBy operandFault
-  alike-constant z s at = refl
+  unfolding operandBy operand
+  alike-constant z s at = field-same Refusal.Cut 48 _ _ s at (λ v h. judged-by t k sorts lent (constantField v))
 
   -- what follows an operand needs to agree only on numbers that its field holds
   onward-operand : {A : Type 0} (o : Operand) (named : ℕ → table.Operand) → Alike o named → (s : List ℕ) (at : ℕ) (f g : ℕ → ℕ → Got A)
@@ -145,7 +137,7 @@ module _ (t : Table) (sorts : List ℕ) (k : ℕ) (lent : SortsOf t k sorts) whe
 
   -- a kind with one operand
   with-one : (kind : ℕ) {o : Operand} {named : ℕ → table.Operand} (make : ℕ → Entry) → Narrow o named → ((a : ℕ) (z : ℤ) → madeOf kind a 0 0 z ≡ make a)
-      → (s : List ℕ) (at : ℕ) → operandsBy sorts (t .events) (t .q) (t .v) k kind (oneOperand kind o) s at ≡ one t k named make s at
+      → (s : List ℕ) (at : ℕ) → operandsBy sorts (t .events) (t .q) (t .v) k kind (places kind o Operand.Nothing Operand.Nothing) s at ≡ one t k named make s at
   unfolding operandsBy operandBy
   with-one kind {o} {named} make first made s at =
       onward-operand o named (first .alike) s at _ _
@@ -154,7 +146,7 @@ module _ (t : Table) (sorts : List ℕ) (k : ℕ) (lent : SortsOf t k sorts) whe
   -- with two
   with-two : (kind : ℕ) {o p : Operand} {named other : ℕ → table.Operand} (make : ℕ → ℕ → Entry) → Narrow o named → Narrow p other
       → ((a b : ℕ) (z : ℤ) → madeOf kind a b 0 z ≡ make a b)
-      → (s : List ℕ) (at : ℕ) → operandsBy sorts (t .events) (t .q) (t .v) k kind (twoOperands kind o p) s at ≡ two t k named other make s at
+      → (s : List ℕ) (at : ℕ) → operandsBy sorts (t .events) (t .q) (t .v) k kind (places kind o p Operand.Nothing) s at ≡ two t k named other make s at
   unfolding operandsBy operandBy
   with-two kind {o} {p} {named} {other} make first second made s at =
       onward-operand o named (first .alike) s at _ _
@@ -165,7 +157,7 @@ module _ (t : Table) (sorts : List ℕ) (k : ℕ) (lent : SortsOf t k sorts) whe
   -- with three
   with-three : (kind : ℕ) {o p r : Operand} {named other last : ℕ → table.Operand} (make : ℕ → ℕ → ℕ → Entry) → Narrow o named → Narrow p other → Narrow r last
       → ((a b c : ℕ) (z : ℤ) → madeOf kind a b c z ≡ make a b c)
-      → (s : List ℕ) (at : ℕ) → operandsBy sorts (t .events) (t .q) (t .v) k kind (threeOperands kind o p r) s at ≡ three t k named other last make s at
+      → (s : List ℕ) (at : ℕ) → operandsBy sorts (t .events) (t .q) (t .v) k kind (places kind o p r) s at ≡ three t k named other last make s at
   unfolding operandsBy
   with-three kind {o} {p} {r} {named} {other} {last} make first second third made s at =
       onward-operand o named (first .alike) s at _ _
@@ -212,7 +204,7 @@ module _ (t : Table) (sorts : List ℕ) (k : ℕ) (lent : SortsOf t k sorts) whe
       (kind-of-made kind h) (each-kind (madeOf kind 0 0 0 (pos 0)) s at)
 
 -- an entry read by what is lent of a table is the entry that the script's reader reads
-pub entry-by : (t : Table) (sorts : List ℕ) (k : ℕ) (s : List ℕ) (at : ℕ) → SortsOf t k sorts → entryBy sorts (t .events) (t .q) (t .v) k s at ≡ reader.entry t k s at
+pub entry-by : (t : Table) (sorts : List ℕ) (k : ℕ) (s : List ℕ) (at : ℕ) → Sorts t k sorts → entryBy sorts (t .events) (t .q) (t .v) k s at ≡ reader.entry t k s at
 unfolding entryBy reader.entry
 entry-by t sorts k s at lent =
     onward-same (field Refusal.Cut 5 (λ kind. unless (ltb kind 25) Refusal.Kind) s at) _ _

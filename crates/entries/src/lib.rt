@@ -2,7 +2,6 @@
 ghost use mathlib.Core.Path.{_≡_};
 ghost use Prim.Native.Nat.{_≤_};
 ghost use lib.ListN.{length};
-ghost use Rattle.sound.specs.Judged.{judgedBy};
 ghost use Rattle.entries.specs.Entering.{entered};
 ghost use Rattle.entries.specs.Takings.{gotOf, operandAfter};
 use bits::Field;
@@ -22,12 +21,6 @@ struct Taking {
     answer: Answer,
     number: u64,
     next: usize,
-}
-
-fn judge(o: Operand, k: usize, q: usize, v: usize, sorts: &[u8], events: &[bool]) -> Answer
-    ensures { λ r. ⌜ r ≡ judgedBy (now (sorts .entry)) (now (events .entry)) q v k o ⌝ }
-{
-    Answer::Accepted
 }
 
 // The operand after what was taken before, judged; where there is no operand nothing is read, and a refusal is handed on.
@@ -56,7 +49,7 @@ fn operand(s: &[u8], before: Taking, o: Operand, k: usize, q: usize, v: usize, s
         };
     };
     Taking {
-        answer: judge(o.holding(n), k, q, v, sorts, events),
+        answer: sound::judge(o.holding(n), k, q, v, sorts, events),
         number: n,
         next: at + w,
     }

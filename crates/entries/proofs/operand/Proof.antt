@@ -13,7 +13,7 @@ use Rattle.entries.proofs.operand.Tie as tie
 use Rattle.entries.proofs.operand.Reads as reads
 use Rattle.entries.proofs.operand.Lts as lts
 use Rattle.bits.proofs.field_at.Reads as field-at-reads
-use Rattle.entries.proofs.judge.Reads as judge-reads
+use Rattle.sound.proofs.judge.Reads as judge-reads
 use Rattle.kinds.proofs.Operand.holding.Reads as holding-reads
 use Rattle.kinds.proofs.Operand.width.Reads as width-reads
 
