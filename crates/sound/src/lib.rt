@@ -1,13 +1,17 @@
 // Whether a table is sound: refusals 4, 7, 8 and 13 in the order of the writer's check.
+ghost use mathlib.Core.Bool.{not, false};
 ghost use mathlib.Core.Path.{_≡_};
 ghost use lib.ListN.{getD};
 ghost use Rattle.table.specs.Kinds.{sortNumber};
 ghost use Rattle.refusals.specs.Numbering.{unless};
+ghost use Rattle.table.specs.Limits.{limits};
+ghost use Rattle.table.specs.Tables.{everySlot};
 ghost use Rattle.sound.specs.Judged.{judgedBy, importNumber, placed};
 use kinds::Operand;
 use refusals::Answer;
 use refusals::Refusal;
 use table::Sort;
+use table::Table;
 use values::Number;
 
 // Accepted if so, else that refusal.
@@ -70,4 +74,18 @@ pub fn judge(o: Operand, k: usize, q: usize, v: usize, sorts: &[u8], events: &[b
         Operand::Variable(x) => unless((x as usize) < v, Refusal::Operand),
         Operand::Constant(z) => unless(Number::Whole(z).in_range(), Refusal::Range),
     }
+}
+
+// "unused import slots conditions"
+fn imports_unused(events: [bool; Table::IMPORTS], q: usize) -> bool
+    ensures { λ r. ⌜ r ≡ everySlot q (limits .imports) (λ i. not (getD events i false)) ⌝ }
+{
+    let mut i: usize = q;
+    while i < Table::IMPORTS {
+        if events[i] {
+            return false;
+        }
+        i += 1;
+    }
+    true
 }
