@@ -3,3 +3,4 @@ pub mod Stages
 pub mod Scans
 pub mod ScanLaws
 pub mod Heads
+pub mod Rules

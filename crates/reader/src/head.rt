@@ -14,7 +14,7 @@ ghost use Rattle.reader.specs.Stages.{reached};
 ghost use Rattle.reader.specs.Heads.{counts};
 
 // A refusal, with the empty table.
-fn refused(r: Refusal) -> Stage
+pub(crate) fn refused(r: Refusal) -> Stage
     ensures { λ stage. ⌜ reached stage ≡ reading.refused r ⌝ }
 {
     Stage {
