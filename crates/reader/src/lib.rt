@@ -1,5 +1,6 @@
 // Scripts read: a table, a label or the block of labels, or the first refusal.
 mod head;
+mod packed;
 mod rules;
 
 use refusals::Answer;
