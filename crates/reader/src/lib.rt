@@ -2,6 +2,11 @@
 mod head;
 mod packed;
 mod rules;
+mod scanning;
+
+pub use scanning::find_label;
+pub use scanning::read;
+pub use scanning::scan_script;
 
 use refusals::Answer;
 use script::Label;
