@@ -3,12 +3,15 @@ use mathlib.Core.Bool.{Bool, false, cond}
 use mathlib.Core.List.{List}
 use Prim.Native.Nat.{ℕ}
 use lib.Dec.{eqb, ltb}
+use lib.IntN.{pos}
 use lib.ListN.{getD}
-use Rattle.values.specs.Numbers.{inRange}
+use Rattle.values.specs.Numbers.{inRange, eqZ}
 use Rattle.refusals.specs.declared.Refusal.{Refusal}
 use Rattle.refusals.specs.declared.Answer.{Answer}
 use Rattle.refusals.specs.Numbering.{unless, andThen}
 use Rattle.table.specs.declared.Sort.{Sort}
+use Rattle.table.specs.declared.Entry.{Entry}
+use Rattle.table.specs.declared.EntrySlot.{EntrySlot}
 use Rattle.table.specs.Kinds.{sortNumber}
 use Rattle.kinds.specs.declared.Operand.{Operand}
 
@@ -27,3 +30,15 @@ judgedBy sorts events q v k (Operand.Entry s a) = placed (ltb a k) (getD sorts a
 judgedBy sorts events q v k (Operand.Imported s i) = placed (ltb i q) (importNumber events i) s
 judgedBy sorts events q v k (Operand.Variable x) = unless (ltb x v) Refusal.Operand
 judgedBy sorts events q v k (Operand.Constant z) = unless (inRange z) Refusal.Range
+
+-- "unused entry slots are the constant 0"
+abbrev pub isZero : Operand → Bool
+isZero Operand.Nothing = false
+isZero (Operand.Entry s a) = false
+isZero (Operand.Imported s i) = false
+isZero (Operand.Variable x) = false
+isZero (Operand.Constant z) = eqZ z (pos 0)
+
+-- the entry in a slot; past the slots, the first kind
+abbrev pub slotEntry : List EntrySlot → ℕ → Entry
+slotEntry slots k = getD slots k (record { entry = Entry.ImportedCondition 0 }) .entry

@@ -14,12 +14,12 @@ use Rattle.table.specs.declared.Entry.{Entry}
 use Rattle.table.specs.declared.Table.{Table}
 use Rattle.table.specs.Kinds.{entry, imported, variable, constant, operandsOf, sortOf, sortNumber}
 use Rattle.table.specs.Kinds as kinds
-use Rattle.table.specs.Tables.{entryAt, isEvent, importSort}
+use Rattle.table.specs.Tables.{entryAt, isEvent, importSort, zeroConstant}
 use Rattle.table.specs.Faults.{operandFault, operandsFault}
 use Rattle.kinds.specs.declared.Operand.{Operand}
 use Rattle.kinds.specs.Apart.{apartOf, firstOf, namedBy}
 use Rattle.kinds.specs.Laws.{operands-apart}
-use Rattle.sound.specs.Judged.{placed, judgedBy}
+use Rattle.sound.specs.Judged.{placed, judgedBy, isZero}
 
 -- the sorts of the entries before k, as numbers
 abbrev pub Sorts : Table → ℕ → List ℕ → Type 0
@@ -75,3 +75,11 @@ module _ (t : Table) (k : ℕ) (sorts : List ℕ) (sorted : Sorts t k sorts) whe
       (ap (operandsFault t k) (sym (operands-apart e))
       ∙ operands-append t k (namedBy (apartOf e .first)) (namedBy (apartOf e .second) ++ namedBy (apartOf e .third))
       ∙ ap (andThen (operandsFault t k (namedBy (apartOf e .first)))) (operands-append t k (namedBy (apartOf e .second)) (namedBy (apartOf e .third)))))
+
+-- whether an entry is the constant 0 is said of its first operand
+pub zero-first : (os : List kinds.Operand) → isZero (firstOf os) ≡ zeroConstant os
+zero-first [] = refl
+zero-first (entry s a ∷ rest) = refl
+zero-first (imported s i ∷ rest) = refl
+zero-first (variable x ∷ rest) = refl
+zero-first (constant z ∷ rest) = refl

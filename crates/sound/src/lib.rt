@@ -2,16 +2,20 @@
 ghost use mathlib.Core.Bool.{not, false};
 ghost use mathlib.Core.Path.{_≡_};
 ghost use lib.ListN.{getD};
-ghost use Rattle.table.specs.Kinds.{sortNumber};
+ghost use Rattle.table.specs.Kinds.{operandsOf, sortNumber};
 ghost use Rattle.refusals.specs.Numbering.{unless};
 ghost use Rattle.table.specs.Limits.{limits};
-ghost use Rattle.table.specs.Tables.{everySlot};
-ghost use Rattle.sound.specs.Judged.{judgedBy, importNumber, placed};
+ghost use Rattle.table.specs.Tables.{everySlot, isUndefined, numberAt, zeroConstant};
+ghost use Rattle.sound.specs.Judged.{judgedBy, importNumber, placed, isZero, slotEntry};
+use kinds::apart_of;
 use kinds::Operand;
 use refusals::Answer;
 use refusals::Refusal;
+use table::Entry;
+use table::EntrySlot;
 use table::Sort;
 use table::Table;
+use table::VariableSlot;
 use values::Number;
 
 // Accepted if so, else that refusal.
@@ -86,6 +90,67 @@ fn imports_unused(events: [bool; Table::IMPORTS], q: usize) -> bool
             return false;
         }
         i += 1;
+    }
+    true
+}
+
+// "unused variable slots undefined"
+fn undefined(number: Number) -> bool
+    ensures { λ r. ⌜ r ≡ isUndefined number ⌝ }
+{
+    match number {
+        Number::Undefined => true,
+        Number::Whole(z) => false,
+    }
+}
+
+fn variables_unused(variables: [VariableSlot; Table::VARIABLES], v: usize) -> bool
+    ensures { λ r. ⌜ r ≡ everySlot v (limits .variables) (λ x. isUndefined (numberAt variables x)) ⌝ }
+{
+    let mut x: usize = v;
+    while x < Table::VARIABLES {
+        let slot = variables[x];
+        let number = slot.number;
+        if !undefined(number) {
+            return false;
+        }
+        x += 1;
+    }
+    true
+}
+
+// "unused entry slots are the constant 0"
+fn zero(o: Operand) -> bool
+    ensures { λ r. ⌜ r ≡ isZero o ⌝ }
+{
+    match o {
+        Operand::Nothing => false,
+        Operand::Entry(s, a) => false,
+        Operand::Imported(s, i) => false,
+        Operand::Variable(x) => false,
+        Operand::Constant(z) => z == 0,
+    }
+}
+
+fn zero_constant(e: Entry) -> bool
+    ensures { λ r. ⌜ r ≡ zeroConstant (operandsOf e) ⌝ }
+{
+    let parts = apart_of(e);
+    let first = parts.first;
+    zero(first)
+}
+
+fn entries_unused(entries: [EntrySlot; Table::ENTRIES], n: usize) -> bool
+    ensures { λ r. ⌜ r ≡ everySlot n (limits .slots) (λ k. zeroConstant (operandsOf (slotEntry entries k))) ⌝ }
+{
+    let mut k: usize = n;
+    while k < Table::ENTRIES {
+        let slot = entries[k];
+        let e = slot.entry;
+        if !zero_constant(e) {
+            return false;
+        }
+        k += 1;
     }
     true
 }
