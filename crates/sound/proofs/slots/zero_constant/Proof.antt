@@ -1,4 +1,4 @@
--- `sound::zero_constant` meets its contract: an unused entry slot is judged by its first operand.
+-- `sound::slots::zero_constant` meets its contract: an unused entry slot is judged by its first operand.
 use borrow.Author.Needs.{needs}
 use mathlib.Core.Path.{ap, _∙_}
 use Rattle.table.specs.Kinds.{operandsOf}
@@ -6,8 +6,8 @@ use Rattle.kinds.specs.declared.Apart.{Apart}
 use Rattle.kinds.specs.Apart.{apartOf}
 use Rattle.sound.specs.Judged.{isZero}
 use Rattle.sound.specs.Laws.{zero-first}
-use Rattle.sound.proofs.zero_constant.Statement.{statement}
-use Rattle.sound.proofs.zero_constant.Tie as tie
+use Rattle.sound.proofs.slots.zero_constant.Statement.{statement}
+use Rattle.sound.proofs.slots.zero_constant.Tie as tie
 
 returns : tie.Need-returns
 unfolding apartOf

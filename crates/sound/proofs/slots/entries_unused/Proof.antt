@@ -1,4 +1,4 @@
--- `sound::entries_unused` meets its contract. The loop's invariant: each entry slot passed, from n on, is the constant 0.
+-- `sound::slots::entries_unused` meets its contract. The loop's invariant: each entry slot passed, from n on, is the constant 0.
 use borrow.Author.Needs.{needs}
 use borrow.Author.Tests.{not-true, not-false}
 use mathlib.Core.Bool.{Bool}
@@ -10,8 +10,8 @@ use Rattle.table.specs.Kinds.{operandsOf}
 use Rattle.table.specs.Tables.{zeroConstant}
 use Rattle.sound.specs.Judged.{slotEntry}
 use Rattle.sound.specs.Slots.{Passed, passed-none, passed-more, every-slot, slot-fails}
-use Rattle.sound.proofs.entries_unused.Statement.{statement}
-use Rattle.sound.proofs.entries_unused.Tie as tie
+use Rattle.sound.proofs.slots.entries_unused.Statement.{statement}
+use Rattle.sound.proofs.slots.entries_unused.Tie as tie
 
 abbrev unused : List EntrySlot → ℕ → Bool
 unused entries k = zeroConstant (operandsOf (slotEntry entries k))

@@ -1,4 +1,4 @@
--- `sound::variables_unused` meets its contract. The loop's invariant: each variable slot passed, from v on, is undefined.
+-- `sound::slots::variables_unused` meets its contract. The loop's invariant: each variable slot passed, from v on, is undefined.
 use borrow.Author.Needs.{needs}
 use borrow.Author.Tests.{not-true, not-false}
 use mathlib.Core.Bool.{Bool}
@@ -8,8 +8,8 @@ use Prim.Native.Nat.{ℕ, _≤_, _-_}
 use Rattle.table.specs.declared.VariableSlot.{VariableSlot}
 use Rattle.table.specs.Tables.{isUndefined, numberAt}
 use Rattle.sound.specs.Slots.{Passed, passed-none, passed-more, every-slot, slot-fails}
-use Rattle.sound.proofs.variables_unused.Statement.{statement}
-use Rattle.sound.proofs.variables_unused.Tie as tie
+use Rattle.sound.proofs.slots.variables_unused.Statement.{statement}
+use Rattle.sound.proofs.slots.variables_unused.Tie as tie
 
 abbrev unused : List VariableSlot → ℕ → Bool
 unused variables x = isUndefined (numberAt variables x)
