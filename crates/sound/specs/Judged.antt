@@ -1,8 +1,8 @@
 -- An operand judged by what is lent of a table: the sorts of its entries as numbers, which imports are events, and its counts.
-use mathlib.Core.Bool.{Bool, false, cond}
+use mathlib.Core.Bool.{Bool, false, cond, _&&_}
 use mathlib.Core.List.{List}
 use Prim.Native.Nat.{ℕ}
-use lib.Dec.{eqb, ltb}
+use lib.Dec.{eqb, leb, ltb}
 use lib.IntN.{pos}
 use lib.ListN.{getD}
 use Rattle.values.specs.Numbers.{inRange, eqZ}
@@ -12,6 +12,7 @@ use Rattle.refusals.specs.Numbering.{unless, andThen}
 use Rattle.table.specs.declared.Sort.{Sort}
 use Rattle.table.specs.declared.Entry.{Entry}
 use Rattle.table.specs.declared.EntrySlot.{EntrySlot}
+use Rattle.table.specs.Limits.{limits}
 use Rattle.table.specs.Kinds.{sortNumber}
 use Rattle.kinds.specs.declared.Operand.{Operand}
 
@@ -42,3 +43,7 @@ isZero (Operand.Constant z) = eqZ z (pos 0)
 -- the entry in a slot; past the slots, the first kind
 abbrev pub slotEntry : List EntrySlot → ℕ → Entry
 slotEntry slots k = getD slots k (record { entry = Entry.ImportedCondition 0 }) .entry
+
+-- "n, q or v outside its limits"
+abbrev pub countsKept : ℕ → ℕ → ℕ → Bool
+countsKept n q v = leb 1 n && leb n (limits .entries) && leb q (limits .imports) && leb v (limits .variables)

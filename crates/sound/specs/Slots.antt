@@ -1,5 +1,5 @@
 -- Laws of a test at every slot: it holds where each slot from the number on passes, and fails where one does not.
-use mathlib.Core.Bool.{Bool, true, false, _||_, and-false}
+use mathlib.Core.Bool.{Bool, true, false, not, _&&_, _||_, and-false}
 use mathlib.Core.Logic.{⊎-elim}
 use mathlib.Core.Path.{_≡_, refl}
 use Prim.Native.Nat.{ℕ, zero, suc, _+_, _<_, _≤_}
@@ -7,9 +7,17 @@ use native.Mathlib.Nat.{not-suc-le-zero, eq-or-lt-of-le, le-of-suc-le-suc}
 use native.Mathlib.Decide.{decLt}
 use native.Mathlib.Omega.{arith}
 use lib.Dec.{ltb}
+use lib.ListN.{getD}
 use borrow.Author.Count.{below-more}
 use borrow.Author.Tests.{lt-ltb, le-ltb}
-use Rattle.table.specs.Tables.{everySlot}
+use Rattle.refusals.specs.declared.Refusal.{Refusal}
+use Rattle.refusals.specs.Numbering.{unless}
+use Rattle.table.specs.declared.Table.{Table}
+use Rattle.table.specs.Limits.{limits}
+use Rattle.table.specs.Kinds.{operandsOf}
+use Rattle.table.specs.Tables.{entryAt, isEvent, initialOf, numberAt, isUndefined, zeroConstant, everySlot, unusedSlots}
+use Rattle.table.specs.Faults.{limitsFault}
+use Rattle.sound.specs.Judged.{countsKept, slotEntry}
 
 every-next : (from k : ℕ) (p : ℕ → Bool) → (from ≤ k → p k ≡ true) → (ltb k from || p k) ≡ true
 every-next from k p pass = by (decLt k from)
@@ -46,3 +54,13 @@ slot-fails from (suc m) p k below past bad =
     (λ e. rw (← e, le-ltb k from past, bad) (and-false (everySlot from k p)))
     (λ l. rw (slot-fails from m p k l past bad))
     (eq-or-lt-of-le (le-of-suc-le-suc below))
+
+-- refusal 4, from the counts and the three kinds of slots
+pub limits-said : (t : Table) {counts entries imports variables : Bool}
+    → countsKept (t .n) (t .q) (t .v) ≡ counts
+    → everySlot (t .n) (limits .slots) (λ k. zeroConstant (operandsOf (slotEntry (t .entries) k))) ≡ entries
+    → everySlot (t .q) (limits .imports) (λ i. not (getD (t .events) i false)) ≡ imports
+    → everySlot (t .v) (limits .variables) (λ x. isUndefined (numberAt (t .variables) x)) ≡ variables
+    → limitsFault t ≡ unless (counts && (entries && imports && variables)) Refusal.TableLimits
+unfolding limitsFault unusedSlots entryAt isEvent initialOf
+limits-said t c e i v = rw (c, e, i, v)

@@ -5,9 +5,13 @@ ghost use lib.ListN.{getD};
 ghost use Rattle.table.specs.Kinds.{operandsOf};
 ghost use Rattle.table.specs.Limits.{limits};
 ghost use Rattle.table.specs.Tables.{everySlot, isUndefined, numberAt, zeroConstant};
-ghost use Rattle.sound.specs.Judged.{isZero, slotEntry};
+ghost use Rattle.table.specs.Faults.{limitsFault};
+ghost use Rattle.sound.specs.Judged.{countsKept, isZero, slotEntry};
+use crate::judging::unless;
 use kinds::apart_of;
 use kinds::Operand;
+use refusals::Answer;
+use refusals::Refusal;
 use table::Entry;
 use table::EntrySlot;
 use table::Table;
@@ -87,4 +91,39 @@ fn entries_unused(entries: [EntrySlot; Table::ENTRIES], n: usize) -> bool
         k += 1;
     }
     true
+}
+
+// "entries at most 128, imports at most 48, variables at most 32", and at least one entry.
+fn counts_kept(n: usize, q: usize, v: usize) -> bool
+    ensures { λ r. ⌜ r ≡ countsKept n q v ⌝ }
+{
+    if n < 1 {
+        return false;
+    }
+    if n > Table::ENTRIES {
+        return false;
+    }
+    if q > Table::IMPORTS {
+        return false;
+    }
+    v <= Table::VARIABLES
+}
+
+// "4: n, q or v outside its limits ...; in the writer, also an unused slot not as above"
+pub(crate) fn limits_fault(t: Table) -> Answer
+    ensures { λ r. ⌜ r ≡ limitsFault t ⌝ }
+{
+    if !counts_kept(t.n, t.q, t.v) {
+        return Answer::Refused(Refusal::TableLimits);
+    }
+    let entries = t.entries;
+    if !entries_unused(entries, t.n) {
+        return Answer::Refused(Refusal::TableLimits);
+    }
+    let events = t.events;
+    if !imports_unused(events, t.q) {
+        return Answer::Refused(Refusal::TableLimits);
+    }
+    let variables = t.variables;
+    unless(variables_unused(variables, t.v), Refusal::TableLimits)
 }
