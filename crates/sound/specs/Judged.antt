@@ -15,6 +15,7 @@ use Rattle.table.specs.declared.EntrySlot.{EntrySlot}
 use Rattle.table.specs.Limits.{limits}
 use Rattle.table.specs.Kinds.{sortNumber}
 use Rattle.kinds.specs.declared.Operand.{Operand}
+use Rattle.kinds.specs.declared.Apart.{Apart}
 
 -- the sort of an import, as a number
 abbrev pub importNumber : List Bool → ℕ → ℕ
@@ -31,6 +32,12 @@ judgedBy sorts events q v k (Operand.Entry s a) = placed (ltb a k) (getD sorts a
 judgedBy sorts events q v k (Operand.Imported s i) = placed (ltb i q) (importNumber events i) s
 judgedBy sorts events q v k (Operand.Variable x) = unless (ltb x v) Refusal.Operand
 judgedBy sorts events q v k (Operand.Constant z) = unless (inRange z) Refusal.Range
+
+-- an entry's three operands, judged in order
+abbrev pub apartJudged : List ℕ → List Bool → ℕ → ℕ → ℕ → Apart → Answer
+apartJudged sorts events q v k parts =
+    andThen (judgedBy sorts events q v k (parts .first))
+    (andThen (judgedBy sorts events q v k (parts .second)) (judgedBy sorts events q v k (parts .third)))
 
 -- "unused entry slots are the constant 0"
 abbrev pub isZero : Operand → Bool
