@@ -1,80 +1,79 @@
+-- `sound::entries_fault` meets its contract. The loop's invariant: the sorts of the entries passed are kept, and none of them has a fault.
 use borrow.Author.Needs.{needs}
+use lib.ListN.{length, length-set, replicate}
+use mathlib.Core.List.{List}
+use mathlib.Core.Path.{_≡_, refl, sym, _∙_}
+use Prim.Native.Nat.{ℕ, _≤_, _<_, _-_}
+use native.Mathlib.Nat.{not-suc-le-zero}
+use native.Mathlib.Omega.{arith}
+use Rattle.refusals.specs.declared.Answer.{Answer}
+use Rattle.refusals.specs.Numbering.{firstFault}
+use Rattle.table.specs.declared.Table.{Table}
+use Rattle.table.specs.Tables.{entryAt}
+use Rattle.sound.specs.Laws.{Sorts, entryFault, entry-judged, sorts-more}
+use Rattle.sound.specs.Firsts.{fault-none, faults-none, fault-found}
 use Rattle.sound.proofs.entries_fault.Statement.{statement}
 use Rattle.sound.proofs.entries_fault.Tie as tie
-use Rattle.sound.proofs.entries_fault.Reads as reads
-use Rattle.sound.proofs.entries_fault.Lts as lts
-use Rattle.kinds.proofs.apart_of.Reads as apart-of-reads
-use Rattle.kinds.proofs.sort_of_kind.Reads as sort-of-kind-reads
-use Rattle.sound.proofs.operands_fault.Reads as operands-fault-reads
+
+-- how far the loop has come
+record Come (t : Table) (sorts : List ℕ) (k : ℕ) : Type 0 where
+  within : k ≤ t .n
+  room : length sorts ≡ 128
+  sorted : Sorts t k sorts
+  none : firstFault k (entryFault t) ≡ Answer.Accepted
 
 abbrev Inv-loop : tie.InvT-loop
-Inv-loop t entries events sorts₀ k₀ sorts k = ?
+Inv-loop t entries events sorts₀ k₀ sorts k = Come t sorts k
 
 abbrev μ-loop : tie.MeasureT-loop
-μ-loop t entries events sorts₀ k₀ sorts k = ?
+μ-loop t entries events sorts₀ k₀ sorts k = t .n - k
 
--- src/lib.rt:76:5
 loop-holds : tie.Need-loop-holds Inv-loop μ-loop
-loop-holds c = search needs
+unfolding firstFault
+loop-holds c = record { within = search needs; room = refl; sorted = λ a l. absurd (not-suc-le-zero l); none = refl }
 
--- src/lib.rt:77:20
 mul-slot : tie.Need-mul-slot Inv-loop μ-loop
 mul-slot c = search needs
 
--- src/lib.rt:77:20
 array-copy-out-slot : tie.Need-array-copy-out-slot Inv-loop μ-loop
 array-copy-out-slot c = search needs
 
--- src/lib.rt:79:13
-apart-of-requires : tie.Need-apart-of-requires Inv-loop μ-loop
-apart-of-requires c κs = search needs
-
--- src/lib.rt:80:50
 slice-aggregate-operands-fault : tie.Need-slice-aggregate-operands-fault Inv-loop μ-loop
 slice-aggregate-operands-fault c = search needs
 
--- src/lib.rt:80:58
 slice-aggregate-operands-fault-2 : tie.Need-slice-aggregate-operands-fault-2 Inv-loop μ-loop
 slice-aggregate-operands-fault-2 c = search needs
 
--- src/lib.rt:80:15
-operands-fault-requires : tie.Need-operands-fault-requires Inv-loop μ-loop
-operands-fault-requires c κs = search needs
-
-enum-told : tie.Need-enum-told Inv-loop μ-loop
-enum-told c = search needs
-
--- src/lib.rt:82:29
-enum-known-r : tie.Need-enum-known-r Inv-loop μ-loop
-enum-known-r c = search needs
-
--- src/lib.rt:83:17
 returns : tie.Need-returns Inv-loop μ-loop
-returns c = search needs
+unfolding entryAt
+returns c =
+    sym
+    (fault-found (entryFault (c .before .before .before .before .before .before .before .before .before .before .before .before .before .args .t)) _ (c .before .before .before .before .before .before .before .before .before .before .loop .k) _ (c .before .before .before .before .before .before .before .before .if1 .taken) (c .before .before .before .before .before .before .before .before .before .before .loop .inv .none)
+    (entry-judged (c .before .before .before .before .before .before .before .before .before .before .before .before .before .args .t) (c .before .before .before .before .before .before .before .before .before .before .loop .k) (c .before .before .before .before .before .before .before .before .before .before .loop .sorts) (c .before .before .before .before .before .before .before .before .before .before .loop .inv .sorted) (c .before .before .before .before .before .before .apart-of .ensures) (c .before .before .before .operands-fault .ensures) ∙ c .before .r .given .1))
 
--- src/lib.rt:86:20
-sort-of-kind-requires : tie.Need-sort-of-kind-requires Inv-loop μ-loop
-sort-of-kind-requires c κs = search needs
-
--- src/lib.rt:86:9
 array-write-sorts : tie.Need-array-write-sorts Inv-loop μ-loop
 array-write-sorts c = search needs
 
--- src/lib.rt:87:9
 add-k : tie.Need-add-k Inv-loop μ-loop
 add-k c = search needs
 
--- src/lib.rt:76:5
 loop-less : tie.Need-loop-less Inv-loop μ-loop
 loop-less c = search needs
 
--- src/lib.rt:76:5
 loop-again : tie.Need-loop-again Inv-loop μ-loop
-loop-again c = search needs
+unfolding entryAt
+loop-again c =
+    record {
+      within = search needs;
+      room = simp length-set (c .before .before .before .before .before .before .before .before .before .before .loop .inv .room);
+      sorted = sorts-more (c .before .before .before .before .before .before .before .before .before .before .before .before .before .args .t) (c .before .before .before .before .before .before .before .before .before .before .loop .k) (c .before .before .before .before .before .before .before .before .before .before .loop .sorts) (c .before .before .before .before .before .before .before .before .before .before .loop .inv .sorted) (c .before .before .before .before .before .before .apart-of .ensures) (c .sort-of-kind .ensures) (search needs);
+      none =
+          fault-none (entryFault (c .before .before .before .before .before .before .before .before .before .before .before .before .before .args .t)) (c .before .before .before .before .before .before .before .before .before .before .loop .k) (c .before .before .before .before .before .before .before .before .before .before .loop .inv .none)
+          (entry-judged (c .before .before .before .before .before .before .before .before .before .before .before .before .before .args .t) (c .before .before .before .before .before .before .before .before .before .before .loop .k) (c .before .before .before .before .before .before .before .before .before .before .loop .sorts) (c .before .before .before .before .before .before .before .before .before .before .loop .inv .sorted) (c .before .before .before .before .before .before .apart-of .ensures) (c .before .before .before .operands-fault .ensures) ∙ c .before .enum-told .given .1);
+    }
 
--- src/lib.rt:68:1
 returns-2 : tie.Need-returns-2 Inv-loop μ-loop
-returns-2 c = search needs
+returns-2 c = sym (faults-none (entryFault (c .before .before .before .before .before .args .t)) _ (c .before .before .loop .k) (c .before .before .loop .inv .none) (c .before .before .loop .inv .within) (c .if1 .left))
 
 pub entries-fault-spec : {M : Type 1} → statement M
 entries-fault-spec =
@@ -85,14 +84,14 @@ entries-fault-spec =
     loop-holds
     mul-slot
     array-copy-out-slot
-    apart-of-requires
+    (λ c κs. search needs)
     slice-aggregate-operands-fault
     slice-aggregate-operands-fault-2
-    operands-fault-requires
-    enum-told
-    enum-known-r
+    (λ c κs. search needs)
+    (λ c. search needs)
+    (λ c. search needs)
     returns
-    sort-of-kind-requires
+    (λ c κs. search needs)
     array-write-sorts
     add-k
     loop-less
