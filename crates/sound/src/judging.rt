@@ -14,7 +14,11 @@ use values::Number;
 pub(crate) fn unless(so: bool, r: Refusal) -> Answer
     ensures { λ a. ⌜ a ≡ unless so r ⌝ }
 {
-    if so { Answer::Accepted } else { Answer::Refused(r) }
+    if so {
+        Answer::Accepted
+    } else {
+        Answer::Refused(r)
+    }
 }
 
 // Sorts as numbers.

@@ -12,9 +12,9 @@ ghost use Rattle.table.specs.Tables.{entryAt, numberAt};
 ghost use Rattle.table.specs.Faults.{numberFault, operandsFault, tableFault};
 ghost use Rattle.sound.specs.Judged.{apartJudged};
 use crate::slots::limits_fault;
+use kinds::Apart;
 use kinds::apart_of;
 use kinds::sort_of_kind;
-use kinds::Apart;
 use refusals::Answer;
 use refusals::Refusal;
 use table::Table;
@@ -49,7 +49,14 @@ fn variables_fault(variables: [VariableSlot; Table::VARIABLES], v: usize) -> Ans
 }
 
 // An entry's three operands, judged in order.
-fn operands_fault(parts: Apart, k: usize, q: usize, v: usize, sorts: &[u8], events: &[bool]) -> Answer
+fn operands_fault(
+    parts: Apart,
+    k: usize,
+    q: usize,
+    v: usize,
+    sorts: &[u8],
+    events: &[bool],
+) -> Answer
     ensures { λ r. ⌜ r ≡ apartJudged (now (sorts .entry)) (now (events .entry)) q v k parts ⌝ }
 {
     let one = parts.first;

@@ -8,8 +8,8 @@ ghost use Rattle.table.specs.Tables.{everySlot, isUndefined, numberAt, zeroCons
 ghost use Rattle.table.specs.Faults.{limitsFault};
 ghost use Rattle.sound.specs.Judged.{countsKept, isZero, slotEntry};
 use crate::judging::unless;
-use kinds::apart_of;
 use kinds::Operand;
+use kinds::apart_of;
 use refusals::Answer;
 use refusals::Refusal;
 use table::Entry;

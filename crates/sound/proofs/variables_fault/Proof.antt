@@ -52,11 +52,12 @@ loop-less : tie.Need-loop-less Inv-loop μ-loop
 loop-less c = search needs
 
 loop-again : tie.Need-loop-again Inv-loop μ-loop
-loop-again c =
-    (search needs,
-    fault-none (faultAt (c .before .before .before .before .before .args .t1)) (c .before .before .before .before .loop .x)
-    (c .before .before .before .before .loop .inv .1)
-    (judged (sym (c .before .in-range .ensures) ∙ not-false _ (c .if1 .left)) (number-said _)))
+loop-again c = (
+  search needs,
+  fault-none (faultAt (c .before .before .before .before .before .args .t1)) (c .before .before .before .before .loop .x)
+      (c .before .before .before .before .loop .inv .1)
+      (judged (sym (c .before .in-range .ensures) ∙ not-false _ (c .if1 .left)) (number-said _)),
+)
 
 returns-2 : tie.Need-returns-2 Inv-loop μ-loop
 returns-2 c =

@@ -45,10 +45,11 @@ loop-less : tie.Need-loop-less Inv-loop μ-loop
 loop-less c = search needs
 
 loop-again : tie.Need-loop-again Inv-loop μ-loop
-loop-again c =
-    (search needs,
-    passed-more (unused (c .before .before .before .before .before .args .t1)) _ (c .before .before .before .before .loop .x)
-    (c .before .before .before .before .loop .inv .1) (sym (c .before .undefined .ensures) ∙ not-false _ (c .if1 .left)))
+loop-again c = (
+  search needs,
+  passed-more (unused (c .before .before .before .before .before .args .t1)) _ (c .before .before .before .before .loop .x)
+      (c .before .before .before .before .loop .inv .1) (sym (c .before .undefined .ensures) ∙ not-false _ (c .if1 .left)),
+)
 
 returns-2 : tie.Need-returns-2 Inv-loop μ-loop
 returns-2 c = sym (every-slot _ 32 (c .before .loop .x) (unused (c .before .before .args .t1)) (c .before .loop .inv .1) (c .loop-test .left))
