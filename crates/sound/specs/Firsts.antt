@@ -8,7 +8,7 @@ use Rattle.values.specs.declared.Number.{Number}
 use Rattle.values.specs.Numbers.{fitsN}
 use Rattle.refusals.specs.declared.Refusal.{Refusal}
 use Rattle.refusals.specs.declared.Answer.{Answer}
-use Rattle.refusals.specs.Numbering.{unless, andThen, firstFault}
+use Rattle.refusals.specs.Numbering.{unless, firstFault}
 use Rattle.table.specs.Faults.{numberFault}
 
 module _ (f : ℕ → Answer) where

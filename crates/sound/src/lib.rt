@@ -19,7 +19,6 @@ use refusals::Answer;
 use refusals::Refusal;
 use table::Table;
 use table::VariableSlot;
-use values::Number;
 
 // "the first fault decides"
 fn first(a: Answer, b: Answer) -> Answer

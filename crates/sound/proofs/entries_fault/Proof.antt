@@ -1,11 +1,10 @@
 -- `sound::entries_fault` meets its contract. The loop's invariant: the sorts of the entries passed are kept, and none of them has a fault.
 use borrow.Author.Needs.{needs}
-use lib.ListN.{length, length-set, replicate}
+use lib.ListN.{length, length-set}
 use mathlib.Core.List.{List}
 use mathlib.Core.Path.{_≡_, refl, sym, _∙_}
-use Prim.Native.Nat.{ℕ, _≤_, _<_, _-_}
+use Prim.Native.Nat.{ℕ, _≤_, _-_}
 use native.Mathlib.Nat.{not-suc-le-zero}
-use native.Mathlib.Omega.{arith}
 use Rattle.refusals.specs.declared.Answer.{Answer}
 use Rattle.refusals.specs.Numbering.{firstFault}
 use Rattle.table.specs.declared.Table.{Table}

@@ -1,6 +1,6 @@
 -- `sound::fault` meets its contract: 4 comes first, and a table that passes it has counts within the slots.
 use borrow.Author.Needs.{needs}
-use mathlib.Core.Path.{_≡_, sym, _∙_}
+use mathlib.Core.Path.{sym, _∙_}
 use Rattle.table.specs.Tables.{initialOf}
 use Rattle.table.specs.Faults.{tableFault, four-first}
 use Rattle.sound.specs.Slots.{limits-kept}

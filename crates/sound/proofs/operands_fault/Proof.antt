@@ -1,6 +1,5 @@
 -- `sound::operands_fault` meets its contract: by what the three calls of `judge` ensure.
 use borrow.Author.Needs.{needs}
-use mathlib.Core.Path.{_≡_}
 use Rattle.sound.proofs.operands_fault.Statement.{statement}
 use Rattle.sound.proofs.operands_fault.Tie as tie
 

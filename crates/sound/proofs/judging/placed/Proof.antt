@@ -1,6 +1,5 @@
 -- `sound::judging::placed` meets its contract: what is not there is 7, else the sorts' numbers decide.
 use borrow.Author.Needs.{needs}
-use mathlib.Core.Path.{_≡_}
 use Rattle.sound.proofs.judging.placed.Statement.{statement}
 use Rattle.sound.proofs.judging.placed.Tie as tie
 
