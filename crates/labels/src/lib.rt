@@ -1,7 +1,9 @@
 // Labels read one after another, up to the end of the bytes.
 use bits::Field;
-use refusals::{Answer, Refusal};
-use script::{Label, Span};
+use refusals::Answer;
+use refusals::Refusal;
+use script::Label;
+use script::Span;
 ghost use mathlib.Core.Path.{_≡_};
 ghost use Prim.Native.Nat.{_*_};
 ghost use Rattle.script.specs.Labels.{printable, label};
@@ -50,7 +52,10 @@ fn one(s: &[u8], from: usize) -> Found
     if !all_printable(&s[first..first + size]) {
         return Found::Refused(Refusal::Label);
     }
-    Found::At(Span { from: first, size: size })
+    Found::At(Span {
+        from: first,
+        size: size,
+    })
 }
 
 // The labels from byte `from` on, as many as `count`, and where the text of the wanted one stands, counted from 0.
@@ -63,7 +68,10 @@ pub fn read(s: &[u8], from: usize, count: usize, wanted: usize) -> Label
     while j < count {
         match one(s, at) {
             Found::Refused(refusal) => {
-                return Label { answer: Answer::Refused(refusal), span: Span { from: 0, size: 0 } };
+                return Label {
+                    answer: Answer::Refused(refusal),
+                    span: Span { from: 0, size: 0 },
+                };
             }
             Found::At(text) => {
                 at = text.from + text.size;
@@ -75,7 +83,13 @@ pub fn read(s: &[u8], from: usize, count: usize, wanted: usize) -> Label
         j += 1;
     }
     if at != s.len() {
-        return Label { answer: Answer::Refused(Refusal::LeftOver), span: Span { from: 0, size: 0 } };
+        return Label {
+            answer: Answer::Refused(Refusal::LeftOver),
+            span: Span { from: 0, size: 0 },
+        };
     }
-    Label { answer: Answer::Accepted, span: span }
+    Label {
+        answer: Answer::Accepted,
+        span: span,
+    }
 }
