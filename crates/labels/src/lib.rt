@@ -7,6 +7,7 @@ use script::Span;
 ghost use mathlib.Core.Path.{_≡_};
 ghost use Prim.Native.Nat.{_*_};
 ghost use Rattle.script.specs.Labels.{printable, label};
+ghost use Rattle.script.specs.Reader.{noLabel};
 ghost use Rattle.labels.specs.Among.{labelAmong};
 ghost use Rattle.labels.specs.Laws.{foundIn};
 
@@ -58,6 +59,16 @@ fn one(s: &[u8], from: usize) -> Found
     })
 }
 
+// A refusal, and an empty part.
+fn no_label(refusal: Refusal) -> Label
+    ensures { λ r. ⌜ r ≡ noLabel refusal ⌝ }
+{
+    Label {
+        answer: Answer::Refused(refusal),
+        span: Span { from: 0, size: 0 },
+    }
+}
+
 // The labels from byte `from` on, as many as `count`, and where the text of the wanted one stands, counted from 0.
 pub fn read(s: &[u8], from: usize, count: usize, wanted: usize) -> Label
     ensures { λ r. ⌜ r ≡ labelAmong count wanted (now (s .entry)) (8 * from) ⌝ }
@@ -68,10 +79,7 @@ pub fn read(s: &[u8], from: usize, count: usize, wanted: usize) -> Label
     while j < count {
         match one(s, at) {
             Found::Refused(refusal) => {
-                return Label {
-                    answer: Answer::Refused(refusal),
-                    span: Span { from: 0, size: 0 },
-                };
+                return no_label(refusal);
             }
             Found::At(text) => {
                 at = text.from + text.size;
@@ -83,10 +91,7 @@ pub fn read(s: &[u8], from: usize, count: usize, wanted: usize) -> Label
         j += 1;
     }
     if at != s.len() {
-        return Label {
-            answer: Answer::Refused(Refusal::LeftOver),
-            span: Span { from: 0, size: 0 },
-        };
+        return no_label(Refusal::LeftOver);
     }
     Label {
         answer: Answer::Accepted,

@@ -36,12 +36,16 @@ one-requires c κs = search needs
 enum-known-refusal : tie.Need-enum-known-refusal Inv-loop μ-loop
 enum-known-refusal c = search needs
 
+no-label-requires : tie.Need-no-label-requires Inv-loop μ-loop
+no-label-requires c κs = search needs
+
 returns : tie.Need-returns Inv-loop μ-loop
 returns c =
-    let s = c .before .before .before .before .before .before .before .args .s .now in
-    let loop = c .before .before .before .before .before .loop in
-    sym (passed-refused (loop .inv) (c .before .before .before .before .loop-test .taken)
-    (found-refused s (loop .at) (c .before .refusal .given .0 .0) (sym (c .before .before .before .one .ensures) ∙ c .before .refusal .given .1)))
+    let s = c .before .before .before .before .before .before .before .before .args .s .now in
+    let loop = c .before .before .before .before .before .before .loop in
+    let refusal = c .before .before .refusal .given in
+    let here = found-refused s (loop .at) (refusal .0 .0) (sym (c .before .before .before .before .one .ensures) ∙ refusal .1) in
+    c .no-label .ensures ∙ sym (passed-refused (loop .inv) (c .before .before .before .before .before .loop-test .taken) here)
 
 enum-known-text : tie.Need-enum-known-text Inv-loop μ-loop
 enum-known-text c = search needs
@@ -62,8 +66,11 @@ loop-again c =
     let here = taken (c .before .before .before) .0 in
     ⊎-elim (λ w. rw (w .1) (passed-wanted passed more here (omega arith))) (λ w. rw (w .1) (passed-other passed more here (λ e. omega arith))) (c .if1 .came)
 
+no-label-requires-2 : tie.Need-no-label-requires-2 Inv-loop μ-loop
+no-label-requires-2 c κs = search needs
+
 returns-2 : tie.Need-returns-2 Inv-loop μ-loop
-returns-2 c = sym (passed-left-over (c .before .before .loop .inv) (c .before .loop-test .left) (λ end. omega arith))
+returns-2 c = c .no-label2 .ensures ∙ sym (passed-left-over (c .before .before .before .loop .inv) (c .before .before .loop-test .left) (λ end. omega arith))
 
 returns-3 : tie.Need-returns-3 Inv-loop μ-loop
 returns-3 c = sym (passed-all (c .before .before .loop .inv) (c .before .loop-test .left) (omega arith))
@@ -77,11 +84,13 @@ read-spec =
     loop-holds
     one-requires
     enum-known-refusal
+    no-label-requires
     returns
     enum-known-text
     add-at
     add-j
     loop-less
     loop-again
+    no-label-requires-2
     returns-2
     returns-3)
