@@ -111,6 +111,7 @@ module _ (c : Table) (within : Within c) (s : List ℕ) where
 
 -- a table that was read, with the zero bits after it
 pub record TableRead (s : List ℕ) (t : Table) (next : ℕ) : Type 0 where
+  pub within : Within t
   pub shaped : Shaped t
   pub sound : tableFault t ≡ Answer.Accepted
   pub held : Holds s 0 (tableParts t)
@@ -138,6 +139,7 @@ unfolding tableParts
 whole-table c t s at within h padded =
     let same : at ≡ widthOfAll (tableParts t) = omega (arith, h .stand .ends) in
     record {
+      within = within;
       shaped = h .shaped;
       sound = table-sound t (within-limits t within (unused-slots t (h .no-entry) (h .no-import) (h .no-number))) (h .numbers) (h .operands);
       held = h .stand .held;
