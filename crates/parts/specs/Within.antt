@@ -1,0 +1,76 @@
+-- Labels and their block stand within the script.
+use mathlib.Core.Bool.{Bool, true, false, cond}
+use mathlib.Core.List.{List}
+use mathlib.Core.Path.{_≡_, refl, sym, _∙_, ap}
+use Prim.Native.Nat.{ℕ, _+_, _*_, _/_, _≤_}
+use native.Mathlib.Omega.{arith}
+use borrow.Author.Tests.{leb-true}
+use lib.Dec.{leb}
+use lib.ListN.{length}
+use Rattle.refusals.specs.declared.Refusal.{Refusal}
+use Rattle.refusals.specs.declared.Answer.{Answer}
+use Rattle.bits.specs.Bits.{wholly}
+use Rattle.bits.specs.Reading.{Got, got, refused, judged}
+use Rattle.table.specs.declared.Table.{Table}
+use Rattle.script.specs.declared.Span.{Span}
+use Rattle.script.specs.declared.Label.{Label}
+use Rattle.script.specs.Labels.{printable, text, label}
+use Rattle.script.specs.Reader.{packedTable, scriptOf, noLabel, labelSpan, labelReply, labelIn, labelOf}
+use Rattle.roundtrip.specs.ReadGiving.{Gives, gives-value, gives-refused, gives-onward, gives-field}
+use Rattle.reader.specs.Scans.{spanAfter, spanIn, blockSpan}
+use Rattle.reader.specs.ScanLaws.{block-begins}
+
+-- a part of the bytes
+abbrev pub Inside : List ℕ → Span → Type 0
+Inside s span = span .from + span .size ≤ length s
+
+-- a value that is judged
+gives-judged : {A : Type 0} (answer : Answer) (a : A) (next : ℕ) {P : A → ℕ → Type 0} → P a next → Gives (judged answer a next) P
+gives-judged Answer.Accepted a next p = gives-value p
+gives-judged (Answer.Refused r) a next p = gives-refused
+
+-- a text that is wholly there
+text-there : (s : List ℕ) (size at : ℕ) (whole : Bool) (answer : Answer) → (whole ≡ true → at + 8 * size ≤ 8 * length s)
+    → Gives (cond whole (judged answer (record { from = at / 8; size = size }) (at + 8 * size)) (refused Refusal.Cut)) (λ span next. Inside s span)
+text-there s size at true answer ends = gives-judged answer _ _ (omega (arith, ends refl))
+text-there s size at false answer ends = gives-refused
+
+-- "a length byte 0 to 32, then that many bytes"
+label-inside : (s : List ℕ) (at : ℕ) → Gives (label s at) (λ span next. Inside s span)
+unfolding label text
+label-inside s at = gives-field s at 8 _ _ _ (λ size there good. text-there s size (at + 8) _ _ (λ whole. leb-true (at + 8 + 8 * size) (8 * length s) whole))
+
+-- the label of an entry
+span-inside : (s : List ℕ) (k : ℕ) → Gives (labelSpan k s 0) (λ span next. Inside s span)
+unfolding labelSpan
+span-inside s k = gives-onward (λ t at read. gives-onward (λ count next others. label-inside s next))
+
+reply-inside : (s : List ℕ) (m : Got Span) → Gives m (λ span next. Inside s span) → Inside s (labelReply m .span)
+reply-inside s (got span next) inside = inside .told span next refl
+reply-inside s (refused r) inside = omega arith
+
+shown-inside : (s : List ℕ) (named : Bool) (l : Label) → Inside s (l .span) → Inside s (cond named l (noLabel Refusal.NoEntry) .span)
+shown-inside s true l inside = inside
+shown-inside s false l inside = omega arith
+
+in-inside : (s : List ℕ) (k : ℕ) (m : Got Table) → Inside s (labelIn s k m .span)
+in-inside s k (got t end) = shown-inside s _ (labelReply (labelSpan k s 0)) (reply-inside s (labelSpan k s 0) (span-inside s k))
+in-inside s k (refused r) = omega arith
+
+-- stands within the bytes
+pub label-of-inside : (s : List ℕ) (k : ℕ) → Inside s (labelOf s k .span)
+unfolding labelOf
+label-of-inside s k = in-inside s k (scriptOf s)
+
+-- and so does the block
+after-inside : (s : List ℕ) (m : Got Table) → packedTable s 0 ≡ m → Inside s (spanAfter s m)
+after-inside s (got t at) there = omega (arith, block-begins s t at there .0, block-begins s t at there .1)
+after-inside s (refused r) there = omega arith
+
+block-in-inside : (s : List ℕ) (m : Got Table) → Inside s (spanIn s m)
+block-in-inside s (got t end) = after-inside s (packedTable s 0) refl
+block-in-inside s (refused r) = omega arith
+
+pub block-inside : (s : List ℕ) → Inside s (blockSpan s)
+unfolding blockSpan
+block-inside s = block-in-inside s (scriptOf s)
