@@ -1,20 +1,24 @@
 -- Labels and their block stand within the script.
-use mathlib.Core.Bool.{Bool, true, false, cond}
+use mathlib.Core.Bool.{Bool, true, false, cond, _&&_}
 use mathlib.Core.List.{List}
-use mathlib.Core.Path.{_≡_, refl, sym, _∙_, ap}
-use Prim.Native.Nat.{ℕ, _+_, _*_, _/_, _≤_}
+use mathlib.Core.Path.{_≡_, refl, sym, _∙_, ap, subst}
+use Prim.Native.Nat.{ℕ, _+_, _-_, _*_, _/_, _≤_}
+use native.Mathlib.Nat.{add-comm}
 use native.Mathlib.Omega.{arith}
 use borrow.Author.Tests.{leb-true}
-use lib.Dec.{leb}
-use lib.ListN.{length}
+use lib.Dec.{ltb}
+use lib.ListN.{length, take, drop}
 use Rattle.refusals.specs.declared.Refusal.{Refusal}
 use Rattle.refusals.specs.declared.Answer.{Answer}
+use Rattle.refusals.specs.Numbering.{unless}
 use Rattle.bits.specs.Bits.{wholly}
 use Rattle.bits.specs.Reading.{Got, got, refused, judged}
 use Rattle.table.specs.declared.Table.{Table}
+use Rattle.table.specs.Kinds.{labelled}
+use Rattle.table.specs.Tables.{entryAt, labelsBefore}
 use Rattle.script.specs.declared.Span.{Span}
 use Rattle.script.specs.declared.Label.{Label}
-use Rattle.script.specs.Labels.{printable, text, label}
+use Rattle.script.specs.Labels.{printable, text, label, labels}
 use Rattle.script.specs.Reader.{packedTable, scriptOf, noLabel, labelSpan, labelReply, labelIn, labelOf}
 use Rattle.roundtrip.specs.ReadGiving.{Gives, gives-value, gives-refused, gives-onward, gives-field}
 use Rattle.reader.specs.Scans.{spanAfter, spanIn, blockSpan}
@@ -38,12 +42,12 @@ text-there s size at false answer ends = gives-refused
 -- "a length byte 0 to 32, then that many bytes"
 label-inside : (s : List ℕ) (at : ℕ) → Gives (label s at) (λ span next. Inside s span)
 unfolding label text
-label-inside s at = gives-field s at 8 _ _ _ (λ size there good. text-there s size (at + 8) _ _ (λ whole. leb-true (at + 8 + 8 * size) (8 * length s) whole))
+label-inside s at = gives-field s at 8 _ _ _ (λ size there good. text-there s size (at + 8) (wholly s (at + 8) (8 * size)) (unless (printable (take size (drop ((at + 8) / 8) s))) Refusal.Label) (λ whole. leb-true (at + 8 + 8 * size) (8 * length s) whole))
 
 -- the label of an entry
 span-inside : (s : List ℕ) (k : ℕ) → Gives (labelSpan k s 0) (λ span next. Inside s span)
 unfolding labelSpan
-span-inside s k = gives-onward (λ t at read. gives-onward (λ count next others. label-inside s next))
+span-inside s k = gives-onward {m = packedTable s 0} (λ t at read. gives-onward {m = labels (labelsBefore t k) s at} (λ count next others. label-inside s next))
 
 reply-inside : (s : List ℕ) (m : Got Span) → Gives m (λ span next. Inside s span) → Inside s (labelReply m .span)
 reply-inside s (got span next) inside = inside .told span next refl
@@ -54,7 +58,7 @@ shown-inside s true l inside = inside
 shown-inside s false l inside = omega arith
 
 in-inside : (s : List ℕ) (k : ℕ) (m : Got Table) → Inside s (labelIn s k m .span)
-in-inside s k (got t end) = shown-inside s _ (labelReply (labelSpan k s 0)) (reply-inside s (labelSpan k s 0) (span-inside s k))
+in-inside s k (got t end) = shown-inside s (ltb k (t .n) && labelled (entryAt t k)) (labelReply (labelSpan k s 0)) (reply-inside s (labelSpan k s 0) (span-inside s k))
 in-inside s k (refused r) = omega arith
 
 -- stands within the bytes
@@ -74,3 +78,14 @@ block-in-inside s (refused r) = omega arith
 pub block-inside : (s : List ℕ) → Inside s (blockSpan s)
 unfolding blockSpan
 block-inside s = block-in-inside s (scriptOf s)
+
+-- a part that was found is the part that the definition names: it stands within the bytes, holds the text, and stands at its place
+module _ (s : List ℕ) {x y : Span} (is : x ≡ y) where
+  pub part-inside : Inside s y → Inside s x
+  part-inside inside = subst (Inside s) (sym is) inside
+
+  pub part-text : take (x .from + x .size - x .from) (drop (x .from) s) ≡ take (y .size) (drop (y .from) s)
+  part-text = ap (λ (n : ℕ). take n (drop (x .from) s)) {x = x .from + x .size - x .from} {y = x .size} (omega arith) ∙ ap (λ (z : Span). take (z .size) (drop (z .from) s)) is
+
+  pub part-place : (start : ℕ) → x .from + start ≡ start + y .from
+  part-place start = add-comm (x .from) start ∙ ap (λ (z : Span). start + z .from) is

@@ -1,47 +1,51 @@
+-- The part where the block stands, as the pass over the script found it.
+use mathlib.Core.List.{List}
+use mathlib.Core.Path.{_≡_, refl, _∙_, ap}
+use Prim.Native.Nat.{ℕ}
+use native.Mathlib.Omega.{arith}
 use borrow.Author.Needs.{needs}
+use Rattle.script.specs.declared.Span.{Span}
+use Rattle.reader.specs.declared.Scan.{Scan}
+use Rattle.reader.specs.Scans.{blockSpan, scanOf}
+use Rattle.parts.specs.Shown.{outcomeNumber}
+use Rattle.parts.specs.Within.{Inside, part-inside, part-text, part-place, block-inside}
 use Rattle.parts.proofs.block.Statement.{statement}
 use Rattle.parts.proofs.block.Tie as tie
-use Rattle.parts.proofs.block.Reads as reads
-use Rattle.parts.proofs.block.Lts as lts
-use Rattle.parts.proofs.outcome.Reads as outcome-reads
-use Rattle.reader.proofs.scan_script.Reads as scan-script-reads
 
--- src/lib.rt:41:9
-scan-script-requires : tie.Need-scan-script-requires
-scan-script-requires c κs = search needs
+-- the bytes, and the part that was found
+abbrev bytes : tie.After-scan-script → List ℕ
+bytes p = p .before .before .args .s .now
 
--- src/lib.rt:43:15
-outcome-requires : tie.Need-outcome-requires
-outcome-requires c κs = search needs
+abbrev found : tie.After-scan-script → Span
+found p = p .scan-script .result .block
 
--- src/lib.rt:46:15
+found-is : (p : tie.After-scan-script) → found p ≡ blockSpan (bytes p)
+unfolding scanOf
+found-is p = ap (λ (x : Scan). x .block) (p .scan-script .ensures)
+
+inside : (p : tie.After-scan-script) → Inside (bytes p) (found p)
+inside p = part-inside (bytes p) (found-is p) (block-inside (bytes p))
+
 add-end : tie.Need-add-end
-add-end c = search needs
+add-end c = let h = inside (c .before .before .before) in record { fits = omega arith }
 
--- src/lib.rt:47:5
-sub-result : tie.Need-sub-result
-sub-result c = search needs
-
--- src/lib.rt:47:5
-part-result-start : tie.Need-part-result-start
-part-result-start c = search needs
-
--- src/lib.rt:47:5
 part-result-end : tie.Need-part-result-end
-part-result-end c = search needs
+part-result-end c = let h = inside (c .before .before .before) in omega arith
 
--- src/lib.rt:36:1
 returns : tie.Need-returns
-returns c = search needs
+unfolding scanOf
+returns c =
+    let p : tie.After-scan-script = c .before .before .before .before in
+    (part-text (bytes p) (found-is p), ((refl, part-place (bytes p) (found-is p) (p .before .before .args .s .ptr .1)), c .before .before .before .outcome .ensures ∙ ap (λ (x : Scan). outcomeNumber (x .answer)) (p .scan-script .ensures)))
 
 pub block-spec : {M : Type 1} → statement M
 block-spec =
     tie.close
     (tie.spec
-    scan-script-requires
-    outcome-requires
+    (λ c κs. search needs)
+    (λ c κs. search needs)
     add-end
-    sub-result
-    part-result-start
+    (λ c. search needs)
+    (λ c. search needs)
     part-result-end
     returns)
