@@ -1,0 +1,2 @@
+-- The fields of a table, as they are put one after another.
+pub mod Parts
