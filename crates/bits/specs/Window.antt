@@ -165,13 +165,17 @@ module _ (s : List ℕ) (bytes : Bytes s) (first u count w t v : ℕ) (parts : 8
       ext-getD 0 _ _ (long ∙ sym (length-from (length s) new))
       (λ j h. let k : j < length s = rw long at h in byte-is j k ∙ sym (byte-from (length s) new j k))
 
--- a field that has room is put by its window
-pub window-put : (s : List ℕ) (at w v : ℕ) → Bytes s → w ≤ widest → at + w ≤ 8 * length s
-    → stored s (at / 8) (byteOf (replaced (bitsAt s (8 * (at / 8)) (8 * bytesFor at w)) w (spareAfter at w) v) (bytesFor at w)) (bytesFor at w)
-    ≡ putAt s at w v
+-- a field that has room is put by its window: taken, the field replaced in it, and stored
+pub window-put : (s : List ℕ) (at w v : ℕ) → Bytes s → w ≤ widest → at + w ≤ 8 * length s → {x y : ℕ} {l : List ℕ}
+    → x ≡ bitsAt s (8 * (at / 8)) (8 * bytesFor at w)
+    → y ≡ replaced x w (spareAfter at w) v
+    → l ≡ stored s (at / 8) (byteOf y (bytesFor at w)) (bytesFor at w)
+    → l ≡ putAt s at w v
 unfolding putAt bitsAt
-window-put s at w v bytes narrow ends =
-    put-stored s bytes (at / 8) (at % 8) (bytesFor at w) w (spareAfter at w) v (omega arith) (omega arith)
+window-put s at w v bytes narrow ends taken new put =
+    put
+    ∙ ap (λ (y : ℕ). stored s (at / 8) (byteOf y (bytesFor at w)) (bytesFor at w)) (new ∙ ap (λ (x : ℕ). replaced x w (spareAfter at w) v) taken)
+    ∙ put-stored s bytes (at / 8) (at % 8) (bytesFor at w) w (spareAfter at w) v (omega arith) (omega arith)
     ∙ ap (λ (n : ℕ). bytesFrom (length s) (bitPut s n w v)) {x = 8 * (at / 8) + at % 8} {y = at} (omega arith)
     ∙ rw (le-leb w widest narrow, le-leb (at + w) (8 * length s) ends)
 

@@ -1,12 +1,12 @@
 -- Where there is room, the window with the field replaced is stored again; elsewhere nothing is.
 use borrow.Author.Needs.{needs}
-use mathlib.Core.Path.{sym, ap, _∙_}
-use Prim.Native.Nat.{ℕ, _+_, _-_, _*_, _/_, _%_, _≤_}
+use mathlib.Core.Path.{sym, _∙_}
+use Prim.Native.Nat.{_+_, _*_, _/_, _≤_}
 use native.Mathlib.Omega.{arith}
 use lib.ListN.{length}
 use lib.Pow.{pow-mono}
 use Rattle.bits.specs.Octets.{bits-lt}
-use Rattle.bits.specs.Window.{bytesFor, spareAfter, replaced, byteOf, stored, window-put, not-put}
+use Rattle.bits.specs.Window.{bytesFor, window-put, not-put}
 use Rattle.bits.proofs.Room.{has-room}
 use Rattle.bits.proofs.putting.put.Statement.{statement}
 use Rattle.bits.proofs.putting.put.Tie as tie
@@ -31,10 +31,11 @@ window-of-requires c κs = omega (arith, room (c .before))
 replace-requires : tie.Need-replace-requires
 replace-requires c κs =
     let a = c .before .before .before .before .before .before .args in
-    let h = room (c .before .before .before) in
-    (rw (c .before .window-of .ensures)
-    (omega (arith, bits-lt (a .s .now) (8 * (a .at / 8)) (8 * bytesFor (a .at) (a .w)), pow-mono {i = 8 * bytesFor (a .at) (a .w)} {j = 56} (omega arith))),
-    omega arith)
+    let h = room (c .before .before .before) in (
+      rw (c .before .window-of .ensures)
+          (omega (arith, bits-lt (a .s .now) (8 * (a .at / 8)) (8 * bytesFor (a .at) (a .w)), pow-mono {i = 8 * bytesFor (a .at) (a .w)} {j = 56} (omega arith))),
+      omega arith,
+    )
 
 store-requires : tie.Need-store-requires
 store-requires c κs = omega (arith, room (c .before .before .before .before))
@@ -44,12 +45,9 @@ returns c =
     let b = c .before .before .before in
     let a = b .before .before .before .before .before .before .before .args in
     let h = room (b .before .before .before .before) in
-    let n : ℕ = bytesFor (a .at) (a .w) in
-    c .before .before .store .ensures
-    ∙ ap (λ (x : ℕ). stored (a .s .now) (a .at / 8) (byteOf x n) n)
-      (b .replace .ensures ∙ ap (λ (x : ℕ). replaced x (a .w) (spareAfter (a .at) (a .w)) (a .v)) (b .before .before .window-of .ensures))
-    ∙ window-put (a .s .now) (a .at) (a .w) (a .v)
-      (λ i k. omega (arith, b .before .before .before .before .before .before .slice-known .given i)) (h .0) (h .1)
+    window-put (a .s .now) (a .at) (a .w) (a .v)
+    (λ i k. omega (arith, b .before .before .before .before .before .before .slice-known .given i)) (h .0) (h .1)
+    (b .before .before .window-of .ensures) (b .replace .ensures) (c .before .before .store .ensures)
 
 returns-2 : tie.Need-returns-2
 returns-2 c =

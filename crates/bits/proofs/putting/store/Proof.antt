@@ -32,9 +32,10 @@ loop-again : tie.Need-loop-again Inv-loop μ-loop
 unfolding stored
 loop-again c =
     let a = c .before .before .args in
-    let i = c .before .loop .i in
-    (omega arith,
-    rw (add-one i) (ap (λ (l : List ℕ). set l (a .first + i) (byteOf (a .window) (a .count) i)) (c .before .loop .inv .1)))
+    let i = c .before .loop .i in (
+      omega arith,
+      rw (add-one i) (ap (λ (l : List ℕ). set l (a .first + i) (byteOf (a .window) (a .count) i)) (c .before .loop .inv .1)),
+    )
 
 same-length : tie.Need-same-length Inv-loop μ-loop
 same-length c = kept (c .before)

@@ -36,10 +36,11 @@ add-number-2 c =
 loop-again : tie.Need-loop-again Inv-loop μ-loop
 loop-again c =
     let a = c .before .before .before .args in
-    let i = c .before .before .loop .i in
-    (omega arith,
-    ap (λ (x : ℕ). x * 256 + getD (a .s .now) (a .first + i) 0) (c .before .before .loop .inv .1)
-    ∙ sym (window-more (a .s .now) (a .first) i (omega (arith, c .shared-slice-known .given (a .first + i)))))
+    let i = c .before .before .loop .i in (
+      omega arith,
+      ap (λ (x : ℕ). x * 256 + getD (a .s .now) (a .first + i) 0) (c .before .before .loop .inv .1)
+          ∙ sym (window-more (a .s .now) (a .first) i (omega (arith, c .shared-slice-known .given (a .first + i)))),
+    )
 
 returns : tie.Need-returns Inv-loop μ-loop
 returns c =
