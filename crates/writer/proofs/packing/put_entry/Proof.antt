@@ -1,84 +1,67 @@
+use native.Mathlib.Omega.{arith}
+use Rattle.writer.specs.Parts.{entry-parts}
+use Rattle.writer.specs.Puts.{puts-more, field-ends, operand-ends}
 use borrow.Author.Needs.{needs}
 use Rattle.writer.proofs.packing.put_entry.Statement.{statement}
 use Rattle.writer.proofs.packing.put_entry.Tie as tie
 use Rattle.writer.proofs.packing.put_entry.Reads as reads
 use Rattle.writer.proofs.packing.put_entry.Lts as lts
-use Rattle.bits.proofs.put.Reads as put-reads
-use Rattle.kinds.proofs.Operand.width.Reads as width-reads
 use Rattle.kinds.proofs.apart_of.Reads as apart-of-reads
+use Rattle.writer.proofs.packing.put_field.Reads as put-field-reads
 use Rattle.writer.proofs.packing.put_operand.Reads as put-operand-reads
 
--- src/packing.rt:29:9
+-- src/packing.rt:39:9
 apart-of-requires : tie.Need-apart-of-requires
-apart-of-requires c κs = ?
+apart-of-requires c κs = search needs
 
--- src/packing.rt:33:5
-put-requires : tie.Need-put-requires
-put-requires c κs = ?
+-- src/packing.rt:43:9
+put-field-requires : tie.Need-put-field-requires
+put-field-requires c κs = search needs
 
--- src/packing.rt:34:15
-add-one : tie.Need-add-one
-add-one c = ?
-
--- src/packing.rt:35:5
+-- src/packing.rt:44:9
 put-operand-requires : tie.Need-put-operand-requires
-put-operand-requires c κs = ?
+put-operand-requires c κs = omega (arith, field-ends (c .before .before .before .put-field .ensures))
 
--- src/packing.rt:36:21
-width-requires : tie.Need-width-requires
-width-requires c κs = ?
-
--- src/packing.rt:36:15
-add-two : tie.Need-add-two
-add-two c = ?
-
--- src/packing.rt:37:5
+-- src/packing.rt:45:9
 put-operand-requires-2 : tie.Need-put-operand-requires-2
-put-operand-requires-2 c κs = ?
+put-operand-requires-2 c κs =
+    omega (
+      arith,
+      field-ends (c .before .before .before .before .before .before .before .put-field .ensures),
+      operand-ends (c .before .before .before .before .before .before .before .before .before .apart-of .result .first) (c .before .before .before .put-operand .ensures),
+    )
 
--- src/packing.rt:38:23
-width-requires-2 : tie.Need-width-requires-2
-width-requires-2 c κs = ?
-
--- src/packing.rt:38:17
-add-three : tie.Need-add-three
-add-three c = ?
-
--- src/packing.rt:39:5
+-- src/packing.rt:46:5
 put-operand-requires-3 : tie.Need-put-operand-requires-3
-put-operand-requires-3 c κs = ?
+put-operand-requires-3 c κs =
+    let apart = c .before .before .before .before .before .before .before .before .before .before .before .before .before .apart-of .result in
+    omega (
+      arith,
+      field-ends (c .before .before .before .before .before .before .before .before .before .before .before .put-field .ensures),
+      operand-ends (apart .first) (c .before .before .before .before .before .before .before .put-operand .ensures),
+      operand-ends (apart .second) (c .before .before .before .put-operand2 .ensures),
+    )
 
--- src/packing.rt:40:13
-width-requires-3 : tie.Need-width-requires-3
-width-requires-3 c κs = ?
-
--- src/packing.rt:40:5
-add-result : tie.Need-add-result
-add-result c = ?
-
--- src/packing.rt:24:1
+-- src/packing.rt:35:1
 same-length : tie.Need-same-length
-same-length c = ?
+same-length c = search needs
 
--- src/packing.rt:24:1
+-- src/packing.rt:35:1
 returns : tie.Need-returns
-returns c = ?
+returns c =
+    rw (entry-parts (c .before .before .before .before .before .before .before .before .before .before .before .before .before .before .before .before .before .before .args .e), ← c .before .before .before .before .before .before .before .before .before .before .before .before .before .before .before .before .apart-of .ensures)
+    (puts-more (c .before .before .before .before .before .before .before .before .before .before .before .before .before .before .put-field .ensures)
+    (puts-more (c .before .before .before .before .before .before .before .before .before .before .put-operand .ensures)
+    (puts-more (c .before .before .before .before .before .before .put-operand2 .ensures) (c .before .before .put-operand3 .ensures))))
 
 pub put-entry-spec : {M : Type 1} → statement M
 put-entry-spec =
     tie.close
     (tie.spec
     apart-of-requires
-    put-requires
-    add-one
+    put-field-requires
     put-operand-requires
-    width-requires
-    add-two
     put-operand-requires-2
-    width-requires-2
-    add-three
     put-operand-requires-3
-    width-requires-3
-    add-result
     same-length
     returns)
