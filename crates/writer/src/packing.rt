@@ -45,3 +45,77 @@ fn put_entry(dst: &mut [u8], at: usize, e: Entry) -> usize
     let three = put_operand(dst, two, second);
     put_operand(dst, three, third)
 }
+
+// "Format number ... Entry count n ... Import count q ... Variable count v ... Four zero bits."
+fn put_header(dst: &mut [u8], t: Table) -> usize
+    ensures { λ r. ⌜ Puts (now (dst .entry)) 0 (headerParts t) (now (dst .exit)) r ⌝ }
+{
+    let at = put_field(dst, 0, 8, 1);
+    let at = put_field(dst, at, 8, t.n as u64);
+    let at = put_field(dst, at, 6, t.q as u64);
+    let at = put_field(dst, at, 6, t.v as u64);
+    put_field(dst, at, 4, 0)
+}
+
+// "q bits, one for each import: 1 an event, 0 a condition."
+fn put_imports(dst: &mut [u8], from: usize, t: Table) -> usize
+    requires { ⌜ (from ≤ 4096) × (t .q ≤ 48) ⌝ }
+    ensures { λ r. ⌜ Puts (now (dst .entry)) from (importsParts t (t .q)) (now (dst .exit)) r ⌝ }
+{
+    let mut at = from;
+    let mut i: usize = 0;
+    while i < t.q {
+        at = put_field(dst, at, 1, t.events[i] as u64);
+        i += 1;
+    }
+    at
+}
+
+// "1 bit (1 = starts defined), then 48 bits, two's complement; all zero where it starts undefined"
+fn put_number(dst: &mut [u8], at: usize, y: Number) -> usize
+    requires { ⌜ at ≤ 32768 ⌝ }
+    ensures { λ r. ⌜ Puts (now (dst .entry)) at (numberParts y) (now (dst .exit)) r ⌝ }
+{
+    match y {
+        Number::Undefined => {
+            let next = put_field(dst, at, 1, 0);
+            put_field(dst, next, 48, 0)
+        }
+        Number::Whole(z) => {
+            let next = put_field(dst, at, 1, 1);
+            put_field(dst, next, 48, bits::unsigned(z))
+        }
+    }
+}
+
+// "For each variable"
+fn put_variables(dst: &mut [u8], from: usize, t: Table) -> usize
+    requires { ⌜ (from ≤ 4096) × (t .v ≤ 32) ⌝ }
+    ensures { λ r. ⌜ Puts (now (dst .entry)) from (variablesParts t (t .v)) (now (dst .exit)) r ⌝ }
+{
+    let mut at = from;
+    let mut x: usize = 0;
+    while x < t.v {
+        let slot = t.variables[x];
+        let y = slot.number;
+        at = put_number(dst, at, y);
+        x += 1;
+    }
+    at
+}
+
+// "n entries"
+fn put_entries(dst: &mut [u8], from: usize, t: Table) -> usize
+    requires { ⌜ (from ≤ 4096) × (t .n ≤ 128) ⌝ }
+    ensures { λ r. ⌜ Puts (now (dst .entry)) from (entriesParts t (t .n)) (now (dst .exit)) r ⌝ }
+{
+    let mut at = from;
+    let mut k: usize = 0;
+    while k < t.n {
+        let slot = t.entries[k];
+        let e = slot.entry;
+        at = put_entry(dst, at, e);
+        k += 1;
+    }
+    at
+}
