@@ -1,13 +1,13 @@
 -- Fields put one after another from a bit on: the bytes then, and the bit after the fields.
 use mathlib.Core.List.{List, [], _∷_, _++_}
-use mathlib.Core.Path.{_≡_, refl, sym, _∙_, ap, ap₂}
-use Prim.Native.Nat.{ℕ, _+_, _≤_}
-use native.Mathlib.Nat.{add-zero, add-assoc}
+use mathlib.Core.Path.{_≡_, refl, sym, _∙_, ap, ap₂, subst}
+use Prim.Native.Nat.{ℕ, _+_, _*_, _/_, _≤_}
+use native.Mathlib.Nat.{add-zero, zero-add}
 use native.Mathlib.Omega.{arith}
 use lib.ListN.{length}
-use Rattle.bits.specs.Bits.{Part, widest}
+use Rattle.bits.specs.Bits.{Part, widest, paddingAt}
 use Rattle.bits.specs.Holding.{widthOfAll}
-use Rattle.bits.specs.Packing.{width-append}
+use Rattle.bits.specs.Packing.{width-append, padded, width-padded}
 use Rattle.bits.specs.Putting.{putAt, putAll}
 use Rattle.bits.specs.Putall.{put-append, length-put-all}
 use Rattle.script.specs.Writer.{part, joined}
@@ -47,6 +47,14 @@ puts-joined i f first second = rw (joined-more i f) (puts-more first second)
 pub puts-start : {s : List ℕ} {at : ℕ} (f : ℕ → List Part) → Puts s at (joined 0 f) s at
 unfolding joined
 puts-start f = puts-none
+
+-- some fields, and zero bits up to a whole byte
+pub puts-padded : {s s' s'' : List ℕ} {at end : ℕ} {ps : List Part} → Puts s 0 ps s' at → Puts s' at (part (paddingAt at) 0 ∷ []) s'' end
+    → Puts s 0 (padded ps) s'' (8 * (end / 8))
+puts-padded {s = s} {s'' = s''} {at = at} {end = end} {ps = ps} first zeros =
+    let all : Puts s 0 (padded ps) s'' end =
+      subst (λ (n : ℕ). Puts s 0 (ps ++ (part (paddingAt n) 0 ∷ [])) s'' end) (first .ends ∙ zero-add (widthOfAll ps)) (puts-more first zeros) in
+    record { bytes = all .bytes; ends = omega (arith, all .ends, width-padded ps) }
 
 -- where a field ends
 pub field-ends : {s s' : List ℕ} {at w v next : ℕ} → Puts s at (part w v ∷ []) s' next → next ≡ at + w

@@ -5,8 +5,10 @@ use table::Table;
 use values::Number;
 ghost use mathlib.Core.Path.{_≡_};
 ghost use mathlib.Core.List.{[], _∷_};
-ghost use Prim.Native.Nat.{_+_, _≤_};
-ghost use Rattle.script.specs.Writer.{part, headerParts, numberParts, entryParts};
+ghost use Prim.Native.Nat.{_*_, _≤_};
+ghost use Rattle.bits.specs.Packing.{padded};
+ghost use Rattle.script.specs.Writer.{part, headerParts, numberParts, entryParts, tableParts};
+ghost use Rattle.roundtrip.specs.WrittenSound.{Limited};
 ghost use Rattle.writer.specs.Parts.{operandParts, importsParts, variablesParts, entriesParts};
 ghost use Rattle.writer.specs.Puts.{Puts};
 
@@ -118,4 +120,17 @@ fn put_entries(dst: &mut [u8], from: usize, t: Table) -> usize
         k += 1;
     }
     at
+}
+
+// Every field of the table, and zero bits up to a whole byte; how many bytes they take.
+pub(crate) fn pack(dst: &mut [u8], t: Table) -> usize
+    requires { ⌜ Limited t ⌝ }
+    ensures { λ r. ⌜ Puts (now (dst .entry)) 0 (padded (tableParts t)) (now (dst .exit)) (8 * r) ⌝ }
+{
+    let at = put_header(dst, t);
+    let at = put_imports(dst, at, t);
+    let at = put_variables(dst, at, t);
+    let at = put_entries(dst, at, t);
+    let end = put_field(dst, at, (8 - at % 8) % 8, 0);
+    end / 8
 }
