@@ -15,7 +15,7 @@ use Rattle.table.specs.Tables.{initialOf, entryAt}
 use Rattle.script.specs.Writer.{joined, headerParts, importParts, numberParts, entryParts, tableParts}
 use Rattle.kinds.specs.declared.Operand.{Operand}
 use Rattle.kinds.specs.Apart.{apartOf, wideOf}
-use Rattle.writer.specs.Parts.{operandParts, importsParts, variablesParts, entriesParts, entry-parts}
+use Rattle.writer.specs.Parts.{operandParts, importsParts, variablesParts, entriesParts, joined-more, entry-parts}
 
 -- an operand's field is as wide as the operand
 pub operand-width : (o : Operand) → widthOfAll (operandParts o) ≡ wideOf o
@@ -130,6 +130,11 @@ variables-width t v = joined-width v (λ x. numberParts (initialOf t x)) 49 (λ 
 -- the entries no more than this
 pub entries-wide : (t : Table) (n : ℕ) → widthOfAll (entriesParts t n) ≤ n * 149
 entries-wide t n = joined-wide n (λ k. entryParts (entryAt t k)) 149 (λ k. entry-wide (entryAt t k))
+
+-- one entry more
+pub entries-more : (t : Table) (k : ℕ) → widthOfAll (entriesParts t (k + 1)) ≡ widthOfAll (entriesParts t k) + widthOfAll (entryParts (entryAt t k))
+entries-more t k =
+    ap widthOfAll (joined-more k (λ k. entryParts (entryAt t k))) ∙ width-append (entriesParts t k) (entryParts (entryAt t k))
 
 -- the header 32
 pub header-width : (t : Table) → widthOfAll (headerParts t) ≡ 32
