@@ -28,7 +28,7 @@ unfolding putAt
 by-put P s at w v put same = by-cond P (leb w widest && wholly s at w) (bytesFrom (length s) (bitPut s at w v)) s put same
 
 -- every bit is 0 or 1 then
-put-lt : (s : List ℕ) (at w v : ℕ) → Bitwise (bitPut s at w v)
+pub put-lt : (s : List ℕ) (at w v : ℕ) → Bitwise (bitPut s at w v)
 unfolding bitPut
 put-lt s at w v j =
     by-cond (λ b. b < 2) (leb at j && ltb j (at + w)) (v / 2 ^ (at + w - suc j) % 2) (bitAt s j)

@@ -1,5 +1,6 @@
 -- "Reading goes from front to back and the first fault decides": one field after another, each judged before the next is taken.
 use mathlib.Core.List.{List}
+use mathlib.Core.Path.{_≡_, refl}
 use Prim.Native.Nat.{ℕ, _+_, _*_}
 use lib.Dec.{eqb}
 use lib.ListN.{length}
@@ -27,6 +28,11 @@ give a s at = got a at
 abbrev pub onward : {A B : Type 0} → Got A → (A → ℕ → Got B) → Got B
 onward (got a next) f = f a next
 onward (refused r) f = refused r
+
+-- three readings may be taken together either way
+pub onward-onward : {A B C : Type 0} (m : Got A) (f : A → ℕ → Got B) (g : B → ℕ → Got C) → onward (onward m f) g ≡ onward m (λ a next. onward (f a next) g)
+onward-onward (got a next) f g = refl
+onward-onward (refused r) f g = refl
 
 -- one reading, and then another that knows what the first gave
 abbrev pub _>>=_ : {A B : Type 0} → Reading A → (A → Reading B) → Reading B

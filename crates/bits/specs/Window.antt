@@ -16,6 +16,7 @@ use Rattle.bits.specs.Bits.{numberFrom, bitAt, bitsAt, bytesFrom, wholly
 use Rattle.bits.specs.Digits.{Bitwise, bit-lt, number-lt, number-same, number-split, number-part, number-of-bits}
 use Rattle.bits.specs.Holding.{Bytes}
 use Rattle.bits.specs.Packing.{length-from, byte-from, byte-again}
+use Rattle.bits.specs.Putall.{put-lt}
 use Rattle.bits.specs.Putting.{bitPut, putAt}
 
 -- how many bytes a field touches
@@ -55,15 +56,6 @@ module _ (s : List ℕ) (at w v : ℕ) where
   put-after : (j : ℕ) → at + w ≤ j → bitPut s at w v j ≡ bitAt s j
   unfolding bitPut
   put-after j h = rw (le-leb at j (omega arith), le-ltb j (at + w) h)
-
-  -- each is 0 or 1
-  put-lt : Bitwise (bitPut s at w v)
-  unfolding bitPut
-  put-lt j = either (leb at j && ltb j (at + w)) (mod-lt _ (omega arith)) (bit-lt s j)
-    where
-      either : (b : Bool) {x y : ℕ} → x < 2 → y < 2 → cond b x y < 2
-      either true h k = h
-      either false h k = k
 
 -- the window with the field replaced is the number that the new bits make
 replaced-number : (s : List ℕ) (from u w t v : ℕ)

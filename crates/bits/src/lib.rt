@@ -2,9 +2,10 @@
 mod putting;
 mod taking;
 mod twos;
+mod window;
 
-pub use taking::byte_at;
 pub use putting::put;
+pub use taking::byte_at;
 pub use taking::field_at;
 pub use twos::signed;
 pub use twos::unsigned;

@@ -1,45 +1,11 @@
 // A field put into bytes that are there already: its bits change, and no others.
+use crate::window::has_room;
+use crate::window::window_of;
 ghost use mathlib.Core.Path.{_≡_};
-ghost use mathlib.Core.Bool.{_&&_};
-ghost use Prim.Native.Nat.{_+_, _*_, _<_, _≤_, _^_};
-ghost use lib.Dec.{leb};
+ghost use Prim.Native.Nat.{_+_, _<_, _≤_, _^_};
 ghost use lib.ListN.{length};
-ghost use Rattle.bits.specs.Bits.{widest, bitsAt};
 ghost use Rattle.bits.specs.Putting.{putAt};
 ghost use Rattle.bits.specs.Window.{replaced, byteOf, stored};
-
-// Whether a field of w bits from bit `at` on ends within `len` bytes, and is no wider than the widest.
-fn has_room(len: usize, at: usize, w: usize) -> bool
-    ensures { λ r. ⌜ r ≡ (leb w widest && leb (at + w) (8 * len)) ⌝ }
-{
-    let first = at / 8;
-    let used = at % 8;
-    if 48 < w {
-        return false;
-    }
-    if len < first {
-        return false;
-    }
-    let left = len - first;
-    if 7 <= left {
-        return true;
-    }
-    used + w <= 8 * left
-}
-
-// The number that `count` bytes make from byte `first` on, at most seven of them.
-fn window_of(s: &[u8], first: usize, count: usize) -> u64
-    requires { ⌜ (count ≤ 7) × (first + count ≤ length (now s)) ⌝ }
-    ensures { λ r. ⌜ r ≡ bitsAt (now (s .entry)) (8 * first) (8 * count) ⌝ }
-{
-    let mut number: u64 = 0;
-    let mut i: usize = 0;
-    while i < count {
-        number = number * 256 + s[first + i] as u64;
-        i += 1;
-    }
-    number
-}
 
 // The window with v's low w bits before its last `spare` bits.
 fn replace(window: u64, w: usize, spare: usize, v: u64) -> u64

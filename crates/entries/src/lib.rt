@@ -1,4 +1,12 @@
 // One entry of a script read: its kind, then its operands, each judged before the next is taken.
+ghost use mathlib.Core.Path.{_≡_};
+ghost use Prim.Native.Nat.{_≤_};
+ghost use lib.ListN.{length};
+ghost use Rattle.entries.specs.Entering.{entered};
+ghost use Rattle.entries.specs.Takings.{gotOf, operandAfter};
+use bits::Field;
+use kinds::Operand;
+use refusals::Answer;
 use refusals::Refusal;
 use table::Entry;
 
@@ -6,4 +14,84 @@ use table::Entry;
 pub enum Entered {
     Refused(Refusal),
     Entry(Entry, usize),
+}
+
+// An operand's number and the bit after it, if it is accepted.
+struct Taking {
+    answer: Answer,
+    number: u64,
+    next: usize,
+}
+
+// The operand after what was taken before, judged; where there is no operand nothing is read, and a refusal is handed on.
+fn operand(s: &[u8], before: Taking, o: Operand, k: usize, q: usize, v: usize, sorts: &[u8], events: &[bool]) -> Taking
+    requires { ⌜ length (now s) ≤ 4096 ⌝ }
+    ensures { λ r. ⌜ gotOf r ≡ operandAfter (now (sorts .entry)) (now (events .entry)) q v k o (now (s .entry)) before ⌝ }
+{
+    let answer = before.answer;
+    let Answer::Accepted = answer else {
+        return before;
+    };
+    let at = before.next;
+    let w = o.width();
+    if w == 0 {
+        return Taking {
+            answer: Answer::Accepted,
+            number: 0,
+            next: at,
+        };
+    }
+    let Field::There(n) = bits::field_at(s, at, w) else {
+        return Taking {
+            answer: Answer::Refused(Refusal::Cut),
+            number: 0,
+            next: at,
+        };
+    };
+    Taking {
+        answer: sound::judge(o.holding(n), k, q, v, sorts, events),
+        number: n,
+        next: at + w,
+    }
+}
+
+// The entry at a bit, read by what is lent of the table so far: the sorts of its entries before `k`, which imports are events, its counts.
+pub fn read(s: &[u8], at: usize, k: usize, q: usize, v: usize, sorts: &[u8], events: &[bool]) -> Entered
+    ensures { λ r. ⌜ r ≡ entered (now (sorts .entry)) (now (events .entry)) q v k (now (s .entry)) at ⌝ }
+{
+    if 4096 < s.len() {
+        return Entered::Refused(Refusal::TooLong);
+    }
+    let Field::There(kind) = bits::field_at(s, at, 5) else {
+        return Entered::Refused(Refusal::Cut);
+    };
+    if 25 <= kind {
+        return Entered::Refused(Refusal::Kind);
+    }
+    let places = kinds::apart_of(kinds::made(kind as usize, 0, 0, 0, 0));
+    let first = places.first;
+    let second = places.second;
+    let third = places.third;
+    let start = Taking {
+        answer: Answer::Accepted,
+        number: 0,
+        next: at + 5,
+    };
+    let a = operand(s, start, first, k, q, v, sorts, events);
+    let b = operand(s, a, second, k, q, v, sorts, events);
+    let c = operand(s, b, third, k, q, v, sorts, events);
+    let answer = c.answer;
+    match answer {
+        Answer::Accepted => Entered::Entry(
+            kinds::made(
+                kind as usize,
+                (a.number % 65536) as u16,
+                (b.number % 65536) as u16,
+                (c.number % 65536) as u16,
+                bits::signed(a.number),
+            ),
+            c.next,
+        ),
+        Answer::Refused(r) => Entered::Refused(r),
+    }
 }

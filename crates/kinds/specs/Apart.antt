@@ -6,6 +6,7 @@ use lib.Dec.{ltb}
 use lib.IntN.{ℤ, pos}
 use lib.ListN.{getD, drop}
 use Rattle.bits.specs.Twos.{signed}
+use Rattle.table.specs.declared.Sort.{Sort}
 use Rattle.table.specs.declared.Entry.{Entry}
 use Rattle.table.specs.Kinds.{entry, imported, variable, constant, kindOf, operandsOf}
 use Rattle.table.specs.Kinds as kinds
@@ -13,19 +14,19 @@ use Rattle.script.specs.Operands.{widthOf, fieldOf}
 use Rattle.kinds.specs.declared.Operand.{Operand}
 use Rattle.kinds.specs.declared.Apart.{Apart}
 
--- a kind and its operands
-abbrev pub threeOperands : ℕ → Operand → Operand → Operand → Apart
-threeOperands kind o p q = record { kind = kind; first = o; second = p; third = q }
-
--- a kind with no operand, with one, two and three
-abbrev pub noOperand : ℕ → Apart
-noOperand kind = threeOperands kind Operand.Nothing Operand.Nothing Operand.Nothing
-
+-- a kind with one operand, with none, and with two entries
 abbrev pub oneOperand : ℕ → Operand → Apart
-oneOperand kind o = threeOperands kind o Operand.Nothing Operand.Nothing
+oneOperand kind o = record { kind = kind; first = o; second = Operand.Nothing; third = Operand.Nothing }
 
-abbrev pub twoOperands : ℕ → Operand → Operand → Apart
-twoOperands kind o p = threeOperands kind o p Operand.Nothing
+abbrev pub noOperand : ℕ → Apart
+noOperand kind = oneOperand kind Operand.Nothing
+
+abbrev pub twoEntries : ℕ → Sort → ℕ → Sort → ℕ → Apart
+twoEntries kind s a t b = record { kind = kind; first = Operand.Entry s a; second = Operand.Entry t b; third = Operand.Nothing }
+
+-- "22 update E, variable, N"
+abbrev pub anUpdate : ℕ → ℕ → ℕ → Apart
+anUpdate a x b = record { kind = 22; first = Operand.Entry Sort.Event a; second = Operand.Variable x; third = Operand.Entry Sort.Number b }
 
 -- the first of some operands, or nothing
 abbrev pub firstOf : List kinds.Operand → Operand

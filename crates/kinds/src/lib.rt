@@ -1,6 +1,6 @@
 // Entries taken apart into a kind and operands, and made from them.
 ghost use mathlib.Core.Path.{_≡_};
-ghost use Rattle.kinds.specs.Apart.{apartOf, madeOf, sortOfKind, wideOf, numberOf, holding, noOperand, oneOperand, twoOperands, threeOperands};
+ghost use Rattle.kinds.specs.Apart.{apartOf, madeOf, sortOfKind, wideOf, numberOf, holding, noOperand, oneOperand, twoEntries, anUpdate};
 use bits::signed;
 use bits::unsigned;
 use table::Entry;
@@ -102,25 +102,26 @@ fn one(kind: usize, o: Operand) -> Apart
     }
 }
 
-fn two(kind: usize, o: Operand, p: Operand) -> Apart
-    ensures { λ r. ⌜ r ≡ twoOperands kind o p ⌝ }
+fn two(kind: usize, s: Sort, a: u16, t: Sort, b: u16) -> Apart
+    ensures { λ r. ⌜ r ≡ twoEntries kind s a t b ⌝ }
 {
     Apart {
         kind: kind,
-        first: o,
-        second: p,
+        first: Operand::Entry(s, a),
+        second: Operand::Entry(t, b),
         third: Operand::Nothing,
     }
 }
 
-fn three(kind: usize, o: Operand, p: Operand, q: Operand) -> Apart
-    ensures { λ r. ⌜ r ≡ threeOperands kind o p q ⌝ }
+// "22 update E, variable, N"
+fn update(a: u16, x: u16, b: u16) -> Apart
+    ensures { λ r. ⌜ r ≡ anUpdate a x b ⌝ }
 {
     Apart {
-        kind: kind,
-        first: o,
-        second: p,
-        third: q,
+        kind: 22,
+        first: Operand::Entry(Sort::Event, a),
+        second: Operand::Variable(x),
+        third: Operand::Entry(Sort::Number, b),
     }
 }
 
@@ -131,76 +132,27 @@ pub fn apart_of(e: Entry) -> Apart
     match e {
         Entry::ImportedCondition(i) => one(0, Operand::Imported(Sort::Condition, i)),
         Entry::Defined(a) => one(1, Operand::Entry(Sort::Condition, a)),
-        Entry::Pair(a, b) => two(
-            2,
-            Operand::Entry(Sort::Event, a),
-            Operand::Entry(Sort::Event, b),
-        ),
+        Entry::Pair(a, b) => two(2, Sort::Event, a, Sort::Event, b),
         Entry::Not(a) => one(3, Operand::Entry(Sort::Condition, a)),
-        Entry::Or(a, b) => two(
-            4,
-            Operand::Entry(Sort::Condition, a),
-            Operand::Entry(Sort::Condition, b),
-        ),
-        Entry::And(a, b) => two(
-            5,
-            Operand::Entry(Sort::Condition, a),
-            Operand::Entry(Sort::Condition, b),
-        ),
-        Entry::Implies(a, b) => two(
-            6,
-            Operand::Entry(Sort::Condition, a),
-            Operand::Entry(Sort::Condition, b),
-        ),
-        Entry::Less(a, b) => two(
-            7,
-            Operand::Entry(Sort::Number, a),
-            Operand::Entry(Sort::Number, b),
-        ),
-        Entry::Equal(a, b) => two(
-            8,
-            Operand::Entry(Sort::Number, a),
-            Operand::Entry(Sort::Number, b),
-        ),
+        Entry::Or(a, b) => two(4, Sort::Condition, a, Sort::Condition, b),
+        Entry::And(a, b) => two(5, Sort::Condition, a, Sort::Condition, b),
+        Entry::Implies(a, b) => two(6, Sort::Condition, a, Sort::Condition, b),
+        Entry::Less(a, b) => two(7, Sort::Number, a, Sort::Number, b),
+        Entry::Equal(a, b) => two(8, Sort::Number, a, Sort::Number, b),
         Entry::ImportedEvent(i) => one(9, Operand::Imported(Sort::Event, i)),
         Entry::Start(a) => one(10, Operand::Entry(Sort::Condition, a)),
         Entry::End(a) => one(11, Operand::Entry(Sort::Condition, a)),
-        Entry::Both(a, b) => two(
-            12,
-            Operand::Entry(Sort::Event, a),
-            Operand::Entry(Sort::Event, b),
-        ),
-        Entry::Either(a, b) => two(
-            13,
-            Operand::Entry(Sort::Event, a),
-            Operand::Entry(Sort::Event, b),
-        ),
-        Entry::When(a, b) => two(
-            14,
-            Operand::Entry(Sort::Event, a),
-            Operand::Entry(Sort::Condition, b),
-        ),
+        Entry::Both(a, b) => two(12, Sort::Event, a, Sort::Event, b),
+        Entry::Either(a, b) => two(13, Sort::Event, a, Sort::Event, b),
+        Entry::When(a, b) => two(14, Sort::Event, a, Sort::Condition, b),
         Entry::Constant(z) => one(15, Operand::Constant(z)),
         Entry::Variable(x) => one(16, Operand::Variable(x)),
-        Entry::Sum(a, b) => two(
-            17,
-            Operand::Entry(Sort::Number, a),
-            Operand::Entry(Sort::Number, b),
-        ),
-        Entry::Difference(a, b) => two(
-            18,
-            Operand::Entry(Sort::Number, a),
-            Operand::Entry(Sort::Number, b),
-        ),
+        Entry::Sum(a, b) => two(17, Sort::Number, a, Sort::Number, b),
+        Entry::Difference(a, b) => two(18, Sort::Number, a, Sort::Number, b),
         Entry::Clock => none(19),
         Entry::Value(i) => one(20, Operand::Imported(Sort::Event, i)),
         Entry::Time(a) => one(21, Operand::Entry(Sort::Event, a)),
-        Entry::Update(a, x, b) => three(
-            22,
-            Operand::Entry(Sort::Event, a),
-            Operand::Variable(x),
-            Operand::Entry(Sort::Number, b),
-        ),
+        Entry::Update(a, x, b) => update(a, x, b),
         Entry::Alarm(a) => one(23, Operand::Entry(Sort::Event, a)),
         Entry::Property(a) => one(24, Operand::Entry(Sort::Condition, a)),
     }

@@ -7,7 +7,7 @@ ghost use Rattle.table.specs.Kinds.{labelled};
 ghost use Rattle.table.specs.Tables.{labelsBefore};
 
 // "For each alarm and property entry"
-fn labelled(e: Entry) -> bool
+pub fn labelled(e: Entry) -> bool
     ensures { λ r. ⌜ r ≡ labelled e ⌝ }
 {
     let kind = kinds::apart_of(e).kind;

@@ -2,6 +2,7 @@
 mod counting;
 
 pub use counting::before;
+pub use counting::labelled;
 
 use bits::Field;
 use refusals::{Answer, Refusal};

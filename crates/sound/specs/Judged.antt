@@ -9,15 +9,21 @@ use Rattle.refusals.specs.declared.Refusal.{Refusal}
 use Rattle.refusals.specs.declared.Answer.{Answer}
 use Rattle.refusals.specs.Numbering.{unless, andThen}
 use Rattle.table.specs.declared.Sort.{Sort}
-use Rattle.table.specs.Kinds.{sortNumber, sameSort}
+use Rattle.table.specs.Kinds.{sortNumber}
 use Rattle.kinds.specs.declared.Operand.{Operand}
+
+-- the sort of an import, as a number
+abbrev pub importNumber : List Bool → ℕ → ℕ
+importNumber events i = sortNumber (cond (getD events i false) Sort.Event Sort.Condition)
+
+-- "operand by operand, 7 before 8": what is there, and of the sort that it has
+abbrev pub placed : Bool → ℕ → Sort → Answer
+placed there have s = andThen (unless there Refusal.Operand) (unless (eqb have (sortNumber s)) Refusal.Sort)
 
 -- "7: operand not an earlier entry, import ≥ q, or variable ≥ v"; "8: operand or import of the wrong sort"; "13: number outside 48 bits"
 unfoldable pub judgedBy : List ℕ → List Bool → ℕ → ℕ → ℕ → Operand → Answer
 judgedBy sorts events q v k Operand.Nothing = Answer.Accepted
-judgedBy sorts events q v k (Operand.Entry s a) =
-    andThen (unless (ltb a k) Refusal.Operand) (unless (eqb (getD sorts a 0) (sortNumber s)) Refusal.Sort)
-judgedBy sorts events q v k (Operand.Imported s i) =
-    andThen (unless (ltb i q) Refusal.Operand) (unless (sameSort (cond (getD events i false) Sort.Event Sort.Condition) s) Refusal.Sort)
+judgedBy sorts events q v k (Operand.Entry s a) = placed (ltb a k) (getD sorts a 0) s
+judgedBy sorts events q v k (Operand.Imported s i) = placed (ltb i q) (importNumber events i) s
 judgedBy sorts events q v k (Operand.Variable x) = unless (ltb x v) Refusal.Operand
 judgedBy sorts events q v k (Operand.Constant z) = unless (inRange z) Refusal.Range

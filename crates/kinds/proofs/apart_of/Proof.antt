@@ -98,6 +98,6 @@ apart-of-spec =
     (λ c. told (c .before .enum-told .given .1) (c .none .ensures))
     (λ c. told (c .before .before .e20 .given .1) (c .one9 .ensures))
     (λ c. told (c .before .before .e21 .given .1) (c .one10 .ensures))
-    (λ c. told (c .before .before .e22 .given .1) (c .three .ensures))
+    (λ c. told (c .before .before .e22 .given .1) (c .update .ensures))
     (λ c. told (c .before .before .e23 .given .1) (c .one11 .ensures))
     (λ c. told (c .before .before .e24 .given .1) (c .one12 .ensures)))

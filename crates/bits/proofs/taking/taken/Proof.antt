@@ -8,7 +8,7 @@ use Rattle.bits.proofs.taking.taken.Statement.{statement}
 use Rattle.bits.proofs.taking.taken.Tie as tie
 use Rattle.bits.proofs.taking.taken.Reads as reads
 use Rattle.bits.proofs.taking.taken.Lts as lts
-use Rattle.bits.proofs.taking.window.Reads as window-reads
+use Rattle.bits.proofs.window.window_of.Reads as window-reads
 
 -- src/taking.rt:29:18
 add-count : tie.Need-add-count
@@ -31,8 +31,8 @@ sub-after-2 : tie.Need-sub-after-2
 sub-after-2 c = search needs
 
 -- src/taking.rt:31:9
-window-requires : tie.Need-window-requires
-window-requires c κs = search needs
+window-of-requires : tie.Need-window-of-requires
+window-of-requires c κs = search needs
 
 -- src/taking.rt:32:6
 shr-result : tie.Need-shr-result
@@ -49,7 +49,7 @@ sub-result c = rw (shl-exact {a = 1} 1 (c .before .before .args .w) 64 (omega ar
 -- src/taking.rt:23:1
 returns : tie.Need-returns
 returns c =
-    rw (shl-exact {a = 1} 1 (c .before .before .args .w) 64 (omega arith) (omega arith), one-mul, and-mask, c .window .ensures)
+    rw (shl-exact {a = 1} 1 (c .before .before .args .w) 64 (omega arith) (omega arith), one-mul, and-mask, c .window-of .ensures)
     (window-field (c .before .before .args .s .now) (c .before .before .args .at) (c .before .before .args .w))
 
 pub taken-spec : {M : Type 1} → statement M
@@ -61,7 +61,7 @@ taken-spec =
     mul-after
     sub-after
     sub-after-2
-    window-requires
+    window-of-requires
     shr-result
     shl-result
     sub-result

@@ -2,8 +2,8 @@
 use borrow.Author.Needs.{needs}
 use native.Mathlib.Omega.{arith}
 use Rattle.bits.proofs.Room.{too-wide, too-far, far-off, by-the-rest}
-use Rattle.bits.proofs.putting.has_room.Statement.{statement}
-use Rattle.bits.proofs.putting.has_room.Tie as tie
+use Rattle.bits.proofs.window.has_room.Statement.{statement}
+use Rattle.bits.proofs.window.has_room.Tie as tie
 
 returns : tie.Need-returns
 returns c = too-wide (c .before .args .len) (c .before .args .at) (c .before .args .w) (omega arith)

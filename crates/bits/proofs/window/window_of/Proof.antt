@@ -4,10 +4,10 @@ use Prim.Native.Nat.{ℕ, _≤_, _+_, _-_, _*_}
 use native.Mathlib.Omega.{arith}
 use Rattle.bits.specs.Bits.{numberFrom, bitsAt}
 use Rattle.bits.specs.Octets.{window-lt, window-more}
-use Rattle.bits.proofs.taking.window.Statement.{statement}
-use Rattle.bits.proofs.taking.window.Tie as tie
-use Rattle.bits.proofs.taking.window.Reads as reads
-use Rattle.bits.proofs.taking.window.Lts as lts
+use Rattle.bits.proofs.window.window_of.Statement.{statement}
+use Rattle.bits.proofs.window.window_of.Tie as tie
+use Rattle.bits.proofs.window.window_of.Reads as reads
+use Rattle.bits.proofs.window.window_of.Lts as lts
 
 abbrev Inv-loop : tie.InvT-loop
 Inv-loop s first count number₀ i₀ number i = (i ≤ count) × (number ≡ bitsAt s (8 * first) (8 * i))
@@ -61,8 +61,8 @@ loop-again c = (omega arith,
 returns : tie.Need-returns Inv-loop μ-loop
 returns c = c .before .loop .inv .1 ∙ ap (λ (n : ℕ). bitsAt (c .before .before .args .s .now) (8 * c .before .before .args .first) (8 * n)) (omega arith)
 
-pub window-spec : {M : Type 1} → statement M
-window-spec =
+pub window-of-spec : {M : Type 1} → statement M
+window-of-spec =
     tie.close
     (tie.spec
     Inv-loop
