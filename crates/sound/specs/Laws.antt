@@ -2,9 +2,12 @@
 use mathlib.Core.Bool.{Bool, true, false}
 use mathlib.Core.List.{List, [], _∷_, _++_}
 use mathlib.Core.Path.{_≡_, refl, sym, ap, _∙_}
-use Prim.Native.Nat.{ℕ, _<_}
+use Prim.Native.Nat.{ℕ, _+_, _<_}
+use native.Mathlib.Omega.{arith}
 use lib.Dec.{eqb, ltb}
-use lib.ListN.{getD}
+use lib.ListN.{getD, set, length}
+use lib.Seq.{getD-set-same, getD-set-other}
+use borrow.Author.Count.{below-more}
 use borrow.Author.Tests.{ltb-true}
 use Rattle.refusals.specs.declared.Refusal.{Refusal}
 use Rattle.refusals.specs.declared.Answer.{Answer}
@@ -14,16 +17,21 @@ use Rattle.table.specs.declared.Entry.{Entry}
 use Rattle.table.specs.declared.Table.{Table}
 use Rattle.table.specs.Kinds.{entry, imported, variable, constant, operandsOf, sortOf, sortNumber}
 use Rattle.table.specs.Kinds as kinds
-use Rattle.table.specs.Tables.{entryAt, isEvent, importSort}
+use Rattle.table.specs.Tables.{entryAt, isEvent, importSort, zeroConstant}
 use Rattle.table.specs.Faults.{operandFault, operandsFault}
 use Rattle.kinds.specs.declared.Operand.{Operand}
-use Rattle.kinds.specs.Apart.{apartOf, firstOf, namedBy}
-use Rattle.kinds.specs.Laws.{operands-apart}
-use Rattle.sound.specs.Judged.{placed, judgedBy}
+use Rattle.kinds.specs.declared.Apart.{Apart}
+use Rattle.kinds.specs.Apart.{apartOf, firstOf, namedBy, sortOfKind}
+use Rattle.kinds.specs.Laws.{operands-apart, sort-of-kind}
+use Rattle.sound.specs.Judged.{placed, judgedBy, apartJudged, isZero}
 
 -- the sorts of the entries before k, as numbers
 abbrev pub Sorts : Table → ℕ → List ℕ → Type 0
 Sorts t k sorts = (a : ℕ) → a < k → getD sorts a 0 ≡ sortNumber (sortOf (entryAt t a))
+
+-- the fault of entry k
+abbrev pub entryFault : Table → ℕ → Answer
+entryFault t k = operandsFault t k (operandsOf (entryAt t k))
 
 then-accepted : (a : Answer) → andThen a Answer.Accepted ≡ a
 then-accepted Answer.Accepted = refl
@@ -64,14 +72,32 @@ module _ (t : Table) (k : ℕ) (sorts : List ℕ) (sorted : Sorts t k sorts) whe
   judged-named (Operand.Variable x) = judged-by (variable x) ∙ sym (then-accepted (operandFault t k (variable x)))
   judged-named (Operand.Constant z) = judged-by (constant z) ∙ sym (then-accepted (operandFault t k (constant z)))
 
-  -- an entry's three operands judged in order
-  pub judged-apart : (e : Entry) →
-      andThen (judgedBy sorts (t .events) (t .q) (t .v) k (apartOf e .first))
-      (andThen (judgedBy sorts (t .events) (t .q) (t .v) k (apartOf e .second)) (judgedBy sorts (t .events) (t .q) (t .v) k (apartOf e .third)))
-      ≡ operandsFault t k (operandsOf e)
+  -- an entry's three operands judged in order give its fault
+  pub judged-apart : (e : Entry) → apartJudged sorts (t .events) (t .q) (t .v) k (apartOf e) ≡ operandsFault t k (operandsOf e)
   judged-apart e =
       rw (judged-named (apartOf e .first), judged-named (apartOf e .second), judged-named (apartOf e .third))
       (sym
       (ap (operandsFault t k) (sym (operands-apart e))
       ∙ operands-append t k (namedBy (apartOf e .first)) (namedBy (apartOf e .second) ++ namedBy (apartOf e .third))
       ∙ ap (andThen (operandsFault t k (namedBy (apartOf e .first)))) (operands-append t k (namedBy (apartOf e .second)) (namedBy (apartOf e .third)))))
+
+  module _ {parts : Apart} (is : parts ≡ apartOf (entryAt t k)) where
+    -- entry k, taken apart and judged
+    pub entry-judged : {a : Answer} → a ≡ apartJudged sorts (t .events) (t .q) (t .v) k parts → entryFault t k ≡ a
+    entry-judged said = sym (said ∙ ap (apartJudged sorts (t .events) (t .q) (t .v) k) is ∙ judged-apart (entryAt t k))
+
+    -- and its sort kept
+    pub sorts-more : {s : ℕ} → s ≡ sortOfKind (parts .kind) → k < length sorts → Sorts t (k + 1) (set sorts k s)
+    unfolding apartOf
+    sorts-more {s} said room =
+        below-more (λ a. getD (set sorts k s) a 0 ≡ sortNumber (sortOf (entryAt t a))) k
+        (λ a l. getD-set-other sorts k a s 0 (λ e. omega arith) ∙ sorted a l)
+        (getD-set-same sorts k s 0 room ∙ said ∙ ap (λ (p : Apart). sortOfKind (p .kind)) is ∙ sort-of-kind (entryAt t k))
+
+-- whether an entry is the constant 0 is said of its first operand
+pub zero-first : (os : List kinds.Operand) → isZero (firstOf os) ≡ zeroConstant os
+zero-first [] = refl
+zero-first (entry s a ∷ rest) = refl
+zero-first (imported s i ∷ rest) = refl
+zero-first (variable x ∷ rest) = refl
+zero-first (constant z ∷ rest) = refl

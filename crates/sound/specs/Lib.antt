@@ -2,3 +2,4 @@
 pub mod Judged
 pub mod Laws
 pub mod Slots
+pub mod Firsts

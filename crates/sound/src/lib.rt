@@ -1,91 +1,109 @@
 // Whether a table is sound: refusals 4, 7, 8 and 13 in the order of the writer's check.
-ghost use mathlib.Core.Bool.{not, false};
+mod judging;
+mod slots;
+
+pub use judging::judge;
 ghost use mathlib.Core.Path.{_≡_};
-ghost use lib.ListN.{getD};
-ghost use Rattle.table.specs.Kinds.{sortNumber};
-ghost use Rattle.refusals.specs.Numbering.{unless};
+ghost use Prim.Native.Nat.{_≤_};
+ghost use Rattle.refusals.specs.Numbering.{andThen, firstFault};
 ghost use Rattle.table.specs.Limits.{limits};
-ghost use Rattle.table.specs.Tables.{everySlot};
-ghost use Rattle.sound.specs.Judged.{judgedBy, importNumber, placed};
-use kinds::Operand;
+ghost use Rattle.table.specs.Kinds.{operandsOf};
+ghost use Rattle.table.specs.Tables.{entryAt, numberAt};
+ghost use Rattle.table.specs.Faults.{numberFault, operandsFault, tableFault};
+ghost use Rattle.sound.specs.Judged.{apartJudged};
+use crate::slots::limits_fault;
+use kinds::Apart;
+use kinds::apart_of;
+use kinds::sort_of_kind;
 use refusals::Answer;
 use refusals::Refusal;
-use table::Sort;
 use table::Table;
-use values::Number;
+use table::VariableSlot;
 
-// Accepted if so, else that refusal.
-fn unless(so: bool, r: Refusal) -> Answer
-    ensures { λ a. ⌜ a ≡ unless so r ⌝ }
+// "the first fault decides"
+fn first(a: Answer, b: Answer) -> Answer
+    ensures { λ r. ⌜ r ≡ andThen a b ⌝ }
 {
-    if so { Answer::Accepted } else { Answer::Refused(r) }
-}
-
-// Sorts as numbers.
-fn sort_number(s: Sort) -> u8
-    ensures { λ r. ⌜ r ≡ sortNumber s ⌝ }
-{
-    match s {
-        Sort::None => 0,
-        Sort::Condition => 1,
-        Sort::Event => 2,
-        Sort::Number => 3,
+    match a {
+        Answer::Accepted => b,
+        Answer::Refused(r) => Answer::Refused(r),
     }
 }
 
-// The sort of an entry, as a number; past the lent sorts there is none.
-fn sort_at(sorts: &[u8], a: usize) -> u8
-    ensures { λ r. ⌜ r ≡ getD (now (sorts .entry)) a 0 ⌝ }
+// "variables (13; ...)"
+fn variables_fault(variables: [VariableSlot; Table::VARIABLES], v: usize) -> Answer
+    requires { ⌜ v ≤ limits .variables ⌝ }
+    ensures { λ r. ⌜ r ≡ firstFault v (λ x. numberFault (numberAt variables x)) ⌝ }
 {
-    if a < sorts.len() { sorts[a] } else { 0 }
-}
-
-// The sort of an import, as a number; past the lent imports there are conditions.
-fn import_sort(events: &[bool], i: usize) -> u8
-    ensures { λ r. ⌜ r ≡ importNumber (now (events .entry)) i ⌝ }
-{
-    if i < events.len() {
-        if events[i] {
-            return 2;
+    let mut x: usize = 0;
+    while x < v {
+        let slot = variables[x];
+        let number = slot.number;
+        if !number.in_range() {
+            return Answer::Refused(Refusal::Range);
         }
+        x += 1;
     }
-    1
+    Answer::Accepted
 }
 
-// "7: operand not an earlier entry ...; 8: operand ... of the wrong sort", 7 before 8, and the same for imports.
-fn placed(there: bool, have: u8, s: Sort) -> Answer
-    ensures { λ r. ⌜ r ≡ placed there have s ⌝ }
+// An entry's three operands, judged in order.
+fn operands_fault(
+    parts: Apart,
+    k: usize,
+    q: usize,
+    v: usize,
+    sorts: &[u8],
+    events: &[bool],
+) -> Answer
+    ensures { λ r. ⌜ r ≡ apartJudged (now (sorts .entry)) (now (events .entry)) q v k parts ⌝ }
 {
-    if there {
-        unless(have == sort_number(s), Refusal::Sort)
-    } else {
-        Answer::Refused(Refusal::Operand)
-    }
+    let one = parts.first;
+    let two = parts.second;
+    let three = parts.third;
+    first(
+        judge(one, k, q, v, sorts, events),
+        first(
+            judge(two, k, q, v, sorts, events),
+            judge(three, k, q, v, sorts, events),
+        ),
+    )
 }
 
-// What is wrong with an operand of entry k.
-pub fn judge(o: Operand, k: usize, q: usize, v: usize, sorts: &[u8], events: &[bool]) -> Answer
-    ensures { λ r. ⌜ r ≡ judgedBy (now (sorts .entry)) (now (events .entry)) q v k o ⌝ }
+// "entries in order (7, 8, 13)"; the sorts of the entries passed are kept as numbers.
+fn entries_fault(t: Table) -> Answer
+    requires { ⌜ t .n ≤ limits .entries ⌝ }
+    ensures { λ r. ⌜ r ≡ firstFault (t .n) (λ k. operandsFault t k (operandsOf (entryAt t k))) ⌝ }
 {
-    match o {
-        Operand::Nothing => Answer::Accepted,
-        Operand::Entry(s, a) => placed((a as usize) < k, sort_at(sorts, a as usize), s),
-        Operand::Imported(s, i) => placed((i as usize) < q, import_sort(events, i as usize), s),
-        Operand::Variable(x) => unless((x as usize) < v, Refusal::Operand),
-        Operand::Constant(z) => unless(Number::Whole(z).in_range(), Refusal::Range),
-    }
-}
-
-// "unused import slots conditions"
-fn imports_unused(events: [bool; Table::IMPORTS], q: usize) -> bool
-    ensures { λ r. ⌜ r ≡ everySlot q (limits .imports) (λ i. not (getD events i false)) ⌝ }
-{
-    let mut i: usize = q;
-    while i < Table::IMPORTS {
-        if events[i] {
-            return false;
+    let entries = t.entries;
+    let events = t.events;
+    let mut sorts: [u8; Table::ENTRIES] = [0; Table::ENTRIES];
+    let mut k: usize = 0;
+    while k < t.n {
+        let slot = entries[k];
+        let e = slot.entry;
+        let parts = apart_of(e);
+        match operands_fault(parts, k, t.q, t.v, &sorts, &events) {
+            Answer::Accepted => {}
+            Answer::Refused(r) => {
+                return Answer::Refused(r);
+            }
         }
-        i += 1;
+        sorts[k] = sort_of_kind(parts.kind);
+        k += 1;
     }
-    true
+    Answer::Accepted
+}
+
+// "it checks 4, then variables (13; ...), entries in order (7, 8, 13)"
+pub fn fault(t: Table) -> Answer
+    ensures { λ r. ⌜ r ≡ tableFault t ⌝ }
+{
+    match limits_fault(t) {
+        Answer::Accepted => {
+            let variables = t.variables;
+            first(variables_fault(variables, t.v), entries_fault(t))
+        }
+        Answer::Refused(r) => Answer::Refused(r),
+    }
 }

@@ -1,9 +1,9 @@
--- `sound::import_sort` meets its contract: what is read at i is the definition's, and past the imports its default.
+-- `sound::judging::import_sort` meets its contract: what is read at i is the definition's, and past the imports its default.
 use borrow.Author.Needs.{needs}
 use mathlib.Core.Bool.{false}
 use lib.ListN.{List·getD-eq-default}
-use Rattle.sound.proofs.import_sort.Statement.{statement}
-use Rattle.sound.proofs.import_sort.Tie as tie
+use Rattle.sound.proofs.judging.import_sort.Statement.{statement}
+use Rattle.sound.proofs.judging.import_sort.Tie as tie
 
 returns-3 : tie.Need-returns-3
 returns-3 c = rw (List·getD-eq-default (c .before .args .events .now) false (c .if1 .left))

@@ -1,4 +1,4 @@
--- `sound::imports_unused` meets its contract. The loop's invariant: each import slot passed, from q on, is a condition.
+-- `sound::slots::imports_unused` meets its contract. The loop's invariant: each import slot passed, from q on, is a condition.
 use borrow.Author.Needs.{needs}
 use mathlib.Core.Bool.{Bool, false, not}
 use mathlib.Core.List.{List}
@@ -6,8 +6,8 @@ use mathlib.Core.Path.{sym}
 use Prim.Native.Nat.{ℕ, _≤_, _-_}
 use lib.ListN.{getD}
 use Rattle.sound.specs.Slots.{Passed, passed-none, passed-more, every-slot, slot-fails}
-use Rattle.sound.proofs.imports_unused.Statement.{statement}
-use Rattle.sound.proofs.imports_unused.Tie as tie
+use Rattle.sound.proofs.slots.imports_unused.Statement.{statement}
+use Rattle.sound.proofs.slots.imports_unused.Tie as tie
 
 abbrev unused : List Bool → ℕ → Bool
 unused events i = not (getD events i false)

@@ -1,8 +1,7 @@
--- `sound::placed` meets its contract: what is not there is 7, else the sorts' numbers decide.
+-- `sound::judging::placed` meets its contract: what is not there is 7, else the sorts' numbers decide.
 use borrow.Author.Needs.{needs}
-use mathlib.Core.Path.{_≡_}
-use Rattle.sound.proofs.placed.Statement.{statement}
-use Rattle.sound.proofs.placed.Tie as tie
+use Rattle.sound.proofs.judging.placed.Statement.{statement}
+use Rattle.sound.proofs.judging.placed.Tie as tie
 
 returns : tie.Need-returns
 returns c = rw (c .before .before .if1 .taken, ← c .before .sort-number .ensures) (c .unless .ensures)

@@ -1,12 +1,12 @@
--- `sound::judge` meets its contract: in each arm the operand is the arm's, and the call gives the arm's answer.
+-- `sound::judging::judge` meets its contract: in each arm the operand is the arm's, and the call gives the arm's answer.
 use borrow.Author.Needs.{needs}
 use mathlib.Core.Path.{ap, _∙_}
 use mir.Syntax.{w64}
 use mir.ValLaws.{toZ-ofZ}
 use Rattle.values.specs.Numbers.{inRange}
 use Rattle.sound.specs.Judged.{judgedBy}
-use Rattle.sound.proofs.judge.Statement.{statement}
-use Rattle.sound.proofs.judge.Tie as tie
+use Rattle.sound.proofs.judging.judge.Statement.{statement}
+use Rattle.sound.proofs.judging.judge.Tie as tie
 
 returns : tie.Need-returns
 unfolding judgedBy
