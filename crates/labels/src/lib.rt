@@ -5,11 +5,14 @@ pub use counting::before;
 pub use counting::labelled;
 
 use bits::Field;
-use refusals::{Answer, Refusal};
-use script::{Label, Span};
+use refusals::Answer;
+use refusals::Refusal;
+use script::Label;
+use script::Span;
 ghost use mathlib.Core.Path.{_≡_};
 ghost use Prim.Native.Nat.{_*_};
 ghost use Rattle.script.specs.Labels.{printable, label};
+ghost use Rattle.script.specs.Reader.{noLabel};
 ghost use Rattle.labels.specs.Among.{labelAmong};
 ghost use Rattle.labels.specs.Laws.{foundIn};
 
@@ -55,7 +58,20 @@ fn one(s: &[u8], from: usize) -> Found
     if !all_printable(&s[first..first + size]) {
         return Found::Refused(Refusal::Label);
     }
-    Found::At(Span { from: first, size: size })
+    Found::At(Span {
+        from: first,
+        size: size,
+    })
+}
+
+// A refusal, and an empty part.
+fn no_label(refusal: Refusal) -> Label
+    ensures { λ r. ⌜ r ≡ noLabel refusal ⌝ }
+{
+    Label {
+        answer: Answer::Refused(refusal),
+        span: Span { from: 0, size: 0 },
+    }
 }
 
 // The labels from byte `from` on, as many as `count`, and where the text of the wanted one stands, counted from 0.
@@ -68,7 +84,7 @@ pub fn read(s: &[u8], from: usize, count: usize, wanted: usize) -> Label
     while j < count {
         match one(s, at) {
             Found::Refused(refusal) => {
-                return Label { answer: Answer::Refused(refusal), span: Span { from: 0, size: 0 } };
+                return no_label(refusal);
             }
             Found::At(text) => {
                 at = text.from + text.size;
@@ -80,7 +96,10 @@ pub fn read(s: &[u8], from: usize, count: usize, wanted: usize) -> Label
         j += 1;
     }
     if at != s.len() {
-        return Label { answer: Answer::Refused(Refusal::LeftOver), span: Span { from: 0, size: 0 } };
+        return no_label(Refusal::LeftOver);
     }
-    Label { answer: Answer::Accepted, span: span }
+    Label {
+        answer: Answer::Accepted,
+        span: span,
+    }
 }

@@ -1,4 +1,5 @@
--- The fields of a table, as they are put one after another.
+-- A table's fields put one after another, and a script written.
 pub mod Parts
 pub mod Widths
 pub mod Puts
+pub mod Writing

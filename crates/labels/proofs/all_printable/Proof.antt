@@ -1,3 +1,5 @@
+-- `labels::all_printable` meets its contract. The loop's invariant: what is left of the text decides; the measure is its length.
+use borrow.Author.Needs.{needs}
 use mathlib.Core.Path.{_≡_, sym, _∙_}
 use Prim.Native.Nat.{_≤_, _-_}
 use native.Mathlib.Omega.{arith}
@@ -5,11 +7,8 @@ use lib.ListN.{length, drop}
 use lib.Seq.{drop-length}
 use Rattle.script.specs.Labels.{printable}
 use Rattle.labels.specs.Laws.{printable-next, printable-low, printable-high}
-use borrow.Author.Needs.{needs}
 use Rattle.labels.proofs.all_printable.Statement.{statement}
 use Rattle.labels.proofs.all_printable.Tie as tie
-use Rattle.labels.proofs.all_printable.Reads as reads
-use Rattle.labels.proofs.all_printable.Lts as lts
 
 abbrev Inv-loop : tie.InvT-loop
 Inv-loop text i₀ i = (i ≤ length text) × (printable text ≡ printable (drop i text))
@@ -17,45 +16,38 @@ Inv-loop text i₀ i = (i ≤ length text) × (printable text ≡ printable (dro
 abbrev μ-loop : tie.MeasureT-loop
 μ-loop text i₀ i = length text - i
 
--- src/lib.rt:22:5
 loop-holds : tie.Need-loop-holds Inv-loop μ-loop
 loop-holds c = search needs
 
--- src/lib.rt:23:20
 shared-slice-read-byte : tie.Need-shared-slice-read-byte Inv-loop μ-loop
 shared-slice-read-byte c = search needs
 
--- src/lib.rt:25:13
 returns : tie.Need-returns Inv-loop μ-loop
 returns c =
     let s = c .before .before .before .before .args .text .now in
     let i = c .before .before .before .loop .i in
-    sym (c .before .before .before .loop .inv .1 ∙ printable-low s i (c .before .before .loop-test .taken) (c .if1 .taken))
+    sym (c .before .before .before .loop .inv .1 ∙ printable-low s i (c .before .before .loop-test .taken) (omega arith))
 
--- src/lib.rt:28:13
 returns-2 : tie.Need-returns-2 Inv-loop μ-loop
 returns-2 c =
     let s = c .before .before .before .before .before .args .text .now in
     let i = c .before .before .before .before .loop .i in
-    sym (c .before .before .before .before .loop .inv .1 ∙ printable-high s i (c .before .before .before .loop-test .taken) (c .if2 .taken))
+    sym (c .before .before .before .before .loop .inv .1 ∙ printable-high s i (c .before .before .before .loop-test .taken) (omega arith))
 
--- src/lib.rt:30:9
 add-i : tie.Need-add-i Inv-loop μ-loop
 add-i c = search needs
 
--- src/lib.rt:22:5
 loop-less : tie.Need-loop-less Inv-loop μ-loop
 loop-less c = search needs
 
--- src/lib.rt:22:5
 loop-again : tie.Need-loop-again Inv-loop μ-loop
 loop-again c =
     let s = c .before .before .before .before .before .args .text .now in
-    let i = c .before .before .before .before .loop .i in
-    (omega arith,
-    c .before .before .before .before .loop .inv .1 ∙ printable-next s i (c .before .before .before .loop-test .taken) (c .before .if1 .left) (c .if2 .left))
+    let i = c .before .before .before .before .loop .i in (
+      omega arith,
+      c .before .before .before .before .loop .inv .1 ∙ printable-next s i (c .before .before .before .loop-test .taken) (omega arith) (omega arith),
+    )
 
--- src/lib.rt:18:1
 returns-3 : tie.Need-returns-3 Inv-loop μ-loop
 unfolding printable
 returns-3 c =
