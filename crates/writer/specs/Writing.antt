@@ -1,9 +1,9 @@
 -- A script written: how long it is, in which order its faults come, and what the destination holds then.
 use mathlib.Core.List.{List, _++_}
 use mathlib.Core.Path.{_≡_, refl, sym, _∙_, ap, ap₂}
-use Prim.Native.Nat.{ℕ, _+_, _*_, _/_, _≤_}
+use Prim.Native.Nat.{ℕ, _+_, _*_, _/_, _<_, _≤_}
 use native.Mathlib.Omega.{arith}
-use borrow.Author.Tests.{leb-true}
+use borrow.Author.Tests.{leb-true, le-leb, lt-leb}
 use lib.Dec.{leb, ltb}
 use lib.ListN.{length, take, drop, length-append}
 use lib.Seq.{paste, take-at, take-length, drop-append-add, drop-drop}
@@ -46,6 +46,18 @@ script-length t block =
 abbrev pub roomFault : ℕ → ℕ → Answer
 roomFault size room = andThen (unless (leb size (limits .script)) Refusal.TooLong) (unless (leb size room) Refusal.NoRoom)
 
+-- a script over its limit
+pub room-long : (size room : ℕ) → limits .script < size → roomFault size room ≡ Answer.Refused Refusal.TooLong
+room-long size room long = rw (lt-leb size (limits .script) long)
+
+-- one that the destination has no room for
+pub room-none : (size room : ℕ) → size ≤ limits .script → room < size → roomFault size room ≡ Answer.Refused Refusal.NoRoom
+room-none size room short none = rw (le-leb size (limits .script) short, lt-leb size room none)
+
+-- and one that it has room for
+pub room-enough : (size room : ℕ) → size ≤ limits .script → size ≤ room → roomFault size room ≡ Answer.Accepted
+room-enough size room short enough = rw (le-leb size (limits .script) short, le-leb size room enough)
+
 -- the answer of all the labels does not depend on the wanted one
 among-answer : (count wanted : ℕ) (one : Got Span) (all : Got ℕ) → amongReply (ltb wanted count) one all .answer ≡ answered all
 among-answer count wanted one (got c end) = refl
@@ -63,6 +75,11 @@ pub writer-fault : (t : Table) (block : List ℕ) (room : ℕ)
 unfolding writerFault
 writer-fault t block room =
     ap (λ (n : ℕ). andThen (tableFault t) (andThen (blockFault t block) (roomFault n room))) (script-length t block)
+
+-- the room is the last to be judged
+pub room-last : (t : Table) (block : List ℕ) (room : ℕ) → tableFault t ≡ Answer.Accepted → blockFault t block ≡ Answer.Accepted
+    → writerFault t block room ≡ roomFault (packedSize t + length block) room
+room-last t block room good fine = writer-fault t block room ∙ rw (good, fine) refl
 
 -- what is known of a script that is written
 pub record Writable (t : Table) (block : List ℕ) (room : ℕ) : Type 0 where
