@@ -94,6 +94,12 @@ unfolding Holds widthOfAll
 holds-second s at [] qs held = rw (add-zero at) held
 holds-second s at (p ∷ ps) qs held = rw (← add-assoc at (p .wide) (widthOfAll ps)) (holds-second s (at + p .wide) ps qs (held .1))
 
+-- and they end within the bytes
+pub holds-end : (s : List ℕ) (at : ℕ) (ps : List Part) → at ≤ 8 * length s → Holds s at ps → at + widthOfAll ps ≤ 8 * length s
+unfolding Holds widthOfAll
+holds-end s at [] within held = omega arith
+holds-end s at (p ∷ ps) within held = omega (arith, holds-end s (at + p .wide) ps (there-ends s at (p .wide) (p .is) (held .0)) (held .1))
+
 -- bytes that are made from bits: how many
 pub length-from : (n : ℕ) (bit : ℕ → ℕ) → length (bytesFrom n bit) ≡ n
 unfolding bytesFrom

@@ -2,13 +2,13 @@
 use mathlib.Core.Bool.{Bool, true, false, not}
 use mathlib.Core.List.{List}
 use mathlib.Core.Path.{_≡_, refl, _∙_, ap, ap₂, subst}
-use Prim.Native.Nat.{ℕ, _+_, _%_, _^_, _<_}
+use Prim.Native.Nat.{ℕ, _+_, _%_, _^_, _<_, _≤_}
 use native.Mathlib.Nat.{mod-eq-of-lt}
 use native.Mathlib.Omega.{arith}
-use borrow.Author.Tests.{ltb-true, eqb-true}
+use borrow.Author.Tests.{ltb-true, le-ltb, eqb-true}
 use lib.Dec.{T, eqb, ltb}
 use lib.IntN.{ℤ, pos}
-use lib.ListN.{getD}
+use lib.ListN.{length, getD}
 use Rattle.refusals.specs.declared.Refusal.{Refusal}
 use Rattle.refusals.specs.declared.Answer.{Answer}
 use Rattle.refusals.specs.Numbering.{unless}
@@ -23,6 +23,7 @@ use Rattle.table.specs.declared.Entry.the-variants.{ImportedCondition, Defined,
 use Rattle.table.specs.declared.Table.{Table}
 use Rattle.table.specs.Kinds.{entry, imported, variable, kindOf, operandsOf}
 use Rattle.table.specs.Kinds as table
+use Rattle.table.specs.Limits.{limits}
 use Rattle.table.specs.Below.{noneBelow, none-there}
 use Rattle.table.specs.Faults.{operandFault}
 use Rattle.script.specs.Operands.{widthOf, constantField}
@@ -32,7 +33,7 @@ use Rattle.kinds.specs.declared.Operand.{Operand}
 use Rattle.kinds.specs.declared.Apart.{Apart}
 use Rattle.kinds.specs.Apart.{apartOf, madeOf}
 use Rattle.sound.specs.Laws.{Sorts, judged-by}
-use Rattle.entries.specs.Entering.{operandBy, operandsBy, entryBy}
+use Rattle.entries.specs.Entering.{operandBy, operandsBy, entryBy, enteredOf, entered}
 
 -- a value that is kept was accepted, and is the one that was read
 kept : (answer : Answer) (v end a next : ℕ) → judged answer v end ≡ got a next → (v ≡ a) × (answer ≡ Answer.Accepted)
@@ -210,3 +211,9 @@ entry-by t sorts k s at lent =
     onward-same (field Refusal.Cut 5 (λ kind. unless (ltb kind 25) Refusal.Kind) s at) _ _
     (λ kind next e. by-kind t sorts k lent kind
     (ltb-true kind 25 (passed-holds (ltb kind 25) Refusal.Kind (read-accepted Refusal.Cut 5 (λ kind. unless (ltb kind 25) Refusal.Kind) s at kind next e))) s next)
+
+-- and so is what is handed back, of a script that isn't too long
+pub entered-by : (t : Table) (sorts : List ℕ) (k : ℕ) (s : List ℕ) (at : ℕ) → Sorts t k sorts → length s ≤ limits .script
+    → entered sorts (t .events) (t .q) (t .v) k s at ≡ enteredOf (reader.entry t k s at)
+unfolding entered
+entered-by t sorts k s at lent short = rw (le-ltb (limits .script) (length s) short) (ap enteredOf (entry-by t sorts k s at lent))

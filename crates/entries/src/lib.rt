@@ -24,7 +24,16 @@ struct Taking {
 }
 
 // The operand after what was taken before, judged; where there is no operand nothing is read, and a refusal is handed on.
-fn operand(s: &[u8], before: Taking, o: Operand, k: usize, q: usize, v: usize, sorts: &[u8], events: &[bool]) -> Taking
+fn operand(
+    s: &[u8],
+    before: Taking,
+    o: Operand,
+    k: usize,
+    q: usize,
+    v: usize,
+    sorts: &[u8],
+    events: &[bool],
+) -> Taking
     requires { ⌜ length (now s) ≤ 4096 ⌝ }
     ensures { λ r. ⌜ gotOf r ≡ operandAfter (now (sorts .entry)) (now (events .entry)) q v k o (now (s .entry)) before ⌝ }
 {
@@ -56,7 +65,15 @@ fn operand(s: &[u8], before: Taking, o: Operand, k: usize, q: usize, v: usize, s
 }
 
 // The entry at a bit, read by what is lent of the table so far: the sorts of its entries before `k`, which imports are events, its counts.
-pub fn read(s: &[u8], at: usize, k: usize, q: usize, v: usize, sorts: &[u8], events: &[bool]) -> Entered
+pub fn read(
+    s: &[u8],
+    at: usize,
+    k: usize,
+    q: usize,
+    v: usize,
+    sorts: &[u8],
+    events: &[bool],
+) -> Entered
     ensures { λ r. ⌜ r ≡ entered (now (sorts .entry)) (now (events .entry)) q v k (now (s .entry)) at ⌝ }
 {
     if 4096 < s.len() {

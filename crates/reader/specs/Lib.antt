@@ -4,3 +4,4 @@ pub mod Scans
 pub mod ScanLaws
 pub mod Heads
 pub mod Rules
+pub mod Packs

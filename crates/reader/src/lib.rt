@@ -1,6 +1,12 @@
 // Scripts read: a table, a label or the block of labels, or the first refusal.
 mod head;
+mod packed;
 mod rules;
+mod scanning;
+
+pub use scanning::find_label;
+pub use scanning::read;
+pub use scanning::scan_script;
 
 use refusals::Answer;
 use script::Label;

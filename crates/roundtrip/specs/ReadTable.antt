@@ -56,7 +56,7 @@ counted-so-far s n q v at stand =
     }
 
 -- "Format number ... Entry count n ... Import count q ... Variable count v ... Four zero bits."
-header-read : (s : List ℕ) → Gives (header s 0) (λ c at. Within c × SoFar c s 0 0 0 c at)
+pub header-read : (s : List ℕ) → Gives (header s 0) (λ c at. Within c × SoFar c s 0 0 0 c at)
 unfolding header headerParts
 header-read s =
     gives-field s 0 8 _ _ _ (λ f format one.
@@ -81,7 +81,7 @@ header-read s =
 
 module _ (c : Table) (within : Within c) (s : List ℕ) where
   -- "q bits, one for each import"
-  imports-read : (left i : ℕ) (t : Table) (at : ℕ) → i + left ≡ c .q → SoFar c s i 0 0 t at
+  pub imports-read : (left i : ℕ) (t : Table) (at : ℕ) → i + left ≡ c .q → SoFar c s i 0 0 t at
       → Gives (imports left i t s at) (SoFar c s (c .q) 0 0)
   unfolding imports
   imports-read zero i t at all h = gives-value (subst (λ (m : ℕ). SoFar c s m 0 0 t at) (omega arith) h)
@@ -90,7 +90,7 @@ module _ (c : Table) (within : Within c) (s : List ℕ) where
       imports-read left (suc i) _ _ (omega arith) (import-step h (omega (arith, within .imports)) there))
 
   -- "For each variable: 1 bit ..., then 48 bits"
-  variables-read : (left x : ℕ) (t : Table) (at : ℕ) → x + left ≡ c .v → SoFar c s (c .q) x 0 t at
+  pub variables-read : (left x : ℕ) (t : Table) (at : ℕ) → x + left ≡ c .v → SoFar c s (c .q) x 0 t at
       → Gives (variables left x t s at) (SoFar c s (c .q) (c .v) 0)
   unfolding variables
   variables-read zero x t at all h = gives-value (subst (λ (m : ℕ). SoFar c s (c .q) m 0 t at) (omega arith) h)
@@ -100,7 +100,7 @@ module _ (c : Table) (within : Within c) (s : List ℕ) where
       variables-read left (suc x) _ _ (omega arith) (variable-step h (omega (arith, within .variables)) there number (unless-true _ _ zero-or-defined))))
 
   -- "n entries"
-  entries-read : (left k : ℕ) (t : Table) (at : ℕ) → k + left ≡ c .n → SoFar c s (c .q) (c .v) k t at
+  pub entries-read : (left k : ℕ) (t : Table) (at : ℕ) → k + left ≡ c .n → SoFar c s (c .q) (c .v) k t at
       → Gives (entries left k t s at) (SoFar c s (c .q) (c .v) (c .n))
   unfolding entries
   entries-read zero k t at all h = gives-value (subst (λ (m : ℕ). SoFar c s (c .q) (c .v) m t at) (omega arith) h)

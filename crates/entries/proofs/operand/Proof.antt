@@ -25,10 +25,11 @@ returns-3 c =
 add-next : tie.Need-add-t20
 add-next c =
     let start = c .before .before .before .before .before .before .before .before .before .before .before .before .before in
-    omega
-    (arith,
-    there-ends (start .args .s .now) _ _ _ (sym (c .before .before .before .before .before .field-at .ensures) ∙ c .before .before .before .n .given .1),
-    start .pre)
+    omega (
+      arith,
+      there-ends (start .args .s .now) _ _ _ (sym (c .before .before .before .before .before .field-at .ensures) ∙ c .before .before .before .n .given .1),
+      start .pre,
+    )
 
 -- it is judged
 returns-4 : tie.Need-returns-4

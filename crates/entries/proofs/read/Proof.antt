@@ -21,18 +21,19 @@ returns-2 c = no-kind _ _ _ _ _ _ _ (c .before .before .before .if1 .left) (sym 
 -- it is 25 or more
 returns-3 : tie.Need-returns-3
 returns-3 c =
-    past-kind _ _ _ _ _ _ _ (c .before .before .before .before .before .if1 .left) _
-    (sym (c .before .before .before .before .field-at .ensures) ∙ c .before .before .kind .given .1) (c .if2 .taken)
+    past-kind _ _ _ _ _ _ _ (c .before .before .before .before .before .if1 .left) (c .before .before .kind .given .0 .0)
+    (sym (c .before .before .before .before .field-at .ensures) ∙ c .before .before .kind .given .1) (omega arith)
 
 -- the kind's field ends within the script's bytes
 add-next : tie.Need-add-t19
 add-next c =
     let d = c .before .before .before .before in
-    omega
-    (arith,
-    there-ends (d .before .before .before .before .before .before .before .args .s .now) (d .before .before .before .before .before .before .before .args .at) 5 _
-    (sym (d .before .before .field-at .ensures) ∙ d .kind .given .1),
-    d .before .before .before .if1 .left)
+    omega (
+      arith,
+      there-ends (d .before .before .before .before .before .before .before .args .s .now) (d .before .before .before .before .before .before .before .args .at) 5 _
+          (sym (d .before .before .field-at .ensures) ∙ d .kind .given .1),
+      d .before .before .before .if1 .left,
+    )
 
 -- all operands are accepted
 returns-4 : tie.Need-returns-4

@@ -1,10 +1,13 @@
 -- `reader::head::header` meets its contract: the format and the entry count are there or not, and judged, as the definition has it; `counts` has the rest.
 use borrow.Author.Needs.{needs}
 use borrow.Author.Tests.{ltb-true, ltb-false, lt-leb, le-leb, ne-eqb}
+use mathlib.Core.Bool.{true, false, _&&_}
 use mathlib.Core.List.{List}
 use mathlib.Core.Logic.{⊎-elim}
-use mathlib.Core.Path.{_≡_, sym, _∙_, ap}
+use mathlib.Core.Path.{_≡_, sym, _∙_, ap, ap₂}
 use Prim.Native.Nat.{ℕ}
+use native.Mathlib.Omega.{arith}
+use lib.Dec.{leb}
 use Rattle.bits.specs.declared.Field.{Field}
 use Rattle.bits.specs.Bits.{fieldAt}
 use Rattle.script.specs.Reader.{header}
@@ -18,6 +21,10 @@ bytes c = c .before .before .before .before .before .args .s .now
 abbrev bytes2 : tie.After-known-told2 → List ℕ
 bytes2 c = bytes (c .before .before .before .before .before)
 
+-- the entry count
+abbrev n : tie.After-known-told2 → ℕ
+n c = c .before .n .given .0 .0
+
 -- each field, as it was taken
 format-is : (c : tie.After-known-told) → fieldAt (bytes c) 0 8 ≡ Field.There (c .before .format .given .0 .0)
 format-is c = sym (c .before .before .before .field-at .ensures) ∙ c .before .format .given .1
@@ -25,8 +32,19 @@ format-is c = sym (c .before .before .before .field-at .ensures) ∙ c .before .
 format-one : (c : tie.Else1) → fieldAt (bytes (c .before)) 0 8 ≡ Field.There 1
 format-one c = format-is (c .before) ∙ ap Field.There (c .if1 .left)
 
-n-is : (c : tie.After-known-told2) → fieldAt (bytes2 c) 8 8 ≡ Field.There (c .before .n .given .0 .0)
+n-is : (c : tie.After-known-told2) → fieldAt (bytes2 c) 8 8 ≡ Field.There (n c)
 n-is c = sym (c .before .before .before .field-at2 .ensures) ∙ c .before .n .given .1
+
+-- and as it was judged
+n-outside : (c : tie.Joined2) → (leb 1 (n (c .before)) && leb (n (c .before)) 128) ≡ false
+n-outside c =
+    ⊎-elim
+    (λ w. rw (lt-leb 1 (n (c .before)) (omega arith)))
+    (λ w. ap₂ _&&_ (le-leb 1 (n (c .before)) (omega arith)) (lt-leb (n (c .before)) 128 (omega (arith, ltb-true))))
+    (c .if2 .came)
+
+n-within : (c : tie.Else3) → (leb 1 (n (c .before .before)) && leb (n (c .before .before)) 128) ≡ true
+n-within c = ap₂ _&&_ (le-leb 1 (n (c .before .before)) (omega arith)) (le-leb (n (c .before .before)) 128 (omega (arith, ltb-false)))
 
 returns : tie.Need-returns
 unfolding header
@@ -46,20 +64,13 @@ returns-4 : tie.Need-returns-4
 unfolding header
 returns-4 c =
     let k : tie.After-known-told2 = c .before .before in
-    c .refused4 .ensures
-    ∙ rw (format-one (k .before .before .before .before), n-is k)
-    (⊎-elim
-    (λ w. rw (lt-leb _ _ (w .taken)))
-    (λ w. rw (le-leb _ _ (w .0 .left), lt-leb _ _ (ltb-true _ _ (w .1 .taken))))
-    (c .before .if2 .came))
+    c .refused4 .ensures ∙ rw (format-one (k .before .before .before .before), n-is k, n-outside (c .before))
 
 returns-5 : tie.Need-returns-5
 unfolding header
 returns-5 c =
     let k : tie.After-known-told2 = c .before .before .before in
-    c .counts .ensures
-    ∙ rw (format-one (k .before .before .before .before), n-is k,
-      le-leb _ _ (c .before .before .if2 .left), le-leb _ _ (ltb-false _ _ (c .before .if3 .left)))
+    c .counts .ensures ∙ rw (format-one (k .before .before .before .before), n-is k, n-within (c .before))
 
 pub header-spec : {M : Type 1} → statement M
 header-spec =

@@ -7,9 +7,6 @@ use mir.ValLaws.{toZ-ofZ}
 use Rattle.values.specs.declared.Number.{Number}
 use Rattle.reader.proofs.head.starting.Statement.{statement}
 use Rattle.reader.proofs.head.starting.Tie as tie
-use Rattle.reader.proofs.head.starting.Reads as reads
-use Rattle.reader.proofs.head.starting.Lts as lts
-use Rattle.bits.proofs.signed.Reads as signed-reads
 
 returns : tie.Need-returns
 returns c = rw (eq-eqb _ 1 (c .before .if1 .taken)) (ap Number.Whole (toZ-ofZ w64 _ (record { sfits = c .signed .ok }) ∙ c .signed .ensures))
