@@ -12,7 +12,6 @@ ghost use mathlib.Core.Path.{_≡_};
 ghost use Prim.Native.Nat.{_+_, _≤_};
 ghost use lib.ListN.{length};
 ghost use lib.Seq.{paste};
-ghost use Rattle.table.specs.Limits.{limits};
 ghost use Rattle.script.specs.Writer.{blockFault, writerFault, writeScript, writeBytes};
 ghost use Rattle.roundtrip.specs.WrittenSound.{Limited};
 ghost use Rattle.writer.specs.Writing.{roomFault};
@@ -29,14 +28,13 @@ fn block_fault(t: Table, block: &[u8]) -> Answer
 }
 
 // "then 1, then 12"
-fn room_fault(packed: usize, block: usize, room: usize) -> Answer
-    requires { ⌜ packed ≤ limits .script ⌝ }
-    ensures { λ r. ⌜ r ≡ roomFault (packed + block) room ⌝ }
+fn room_fault(size: usize, room: usize) -> Answer
+    ensures { λ r. ⌜ r ≡ roomFault size room ⌝ }
 {
-    if 4096 - packed < block {
+    if 4096 < size {
         return Answer::Refused(Refusal::TooLong);
     }
-    if room < packed + block {
+    if room < size {
         return Answer::Refused(Refusal::NoRoom);
     }
     Answer::Accepted
@@ -50,7 +48,7 @@ fn fault(t: Table, block: &[u8], room: usize) -> Answer
         Answer::Refused(r) => Answer::Refused(r),
         Answer::Accepted => match block_fault(t, block) {
             Answer::Refused(r) => Answer::Refused(r),
-            Answer::Accepted => room_fault(packed_size(t), block.len(), room),
+            Answer::Accepted => room_fault(packed_size(t) + block.len(), room),
         },
     }
 }
@@ -77,7 +75,8 @@ pub fn write(t: Table, block: &[u8], dst: &mut [u8]) -> Written
         Answer::Accepted => {
             let packed = pack(dst, t);
             copy(dst, packed, block);
-            Written { answer: Answer::Accepted, size: packed + block.len() }
+            let size = packed + block.len();
+            Written { answer: Answer::Accepted, size: size }
         }
     }
 }

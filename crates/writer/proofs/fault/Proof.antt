@@ -1,3 +1,4 @@
+use native.Mathlib.Omega.{arith}
 use mathlib.Core.Path.{sym, _∙_, ap}
 use Prim.Native.Nat.{ℕ, _+_}
 use lib.ListN.{length}
@@ -43,10 +44,14 @@ packed-size-requires : tie.Need-packed-size-requires
 packed-size-requires c κs = sound-table (c .before .before .before .before .before .before .before .args .t) (sym (c .before .before .before .before .before .fault .ensures) ∙ c .before .before .before .enum-told .given .1) .within
 
 -- src/lib.rt:53:33
-room-fault-requires : tie.Need-room-fault-requires
-room-fault-requires c κs =
+add-room-fault : tie.Need-add-room-fault
+add-room-fault c =
     let t = c .before .before .before .before .before .before .before .before .args .t in
-    rw (c .packed-size .ensures) (packed-small t (sound-table t (sym (c .before .before .before .before .before .before .fault .ensures) ∙ c .before .before .before .before .enum-told .given .1) .within))
+    let within = sound-table t (sym (c .before .before .before .before .before .before .fault .ensures) ∙ c .before .before .before .before .enum-told .given .1) .within in
+    omega (arith, c .packed-size .ensures, packed-small t within)
+
+room-fault-requires : tie.Need-room-fault-requires
+room-fault-requires c κs = search needs
 
 -- src/lib.rt:46:1
 returns : tie.Need-returns
@@ -83,6 +88,7 @@ fault-spec =
     enum-known-r-2
     enum-told-2
     packed-size-requires
+    add-room-fault
     room-fault-requires
     returns
     returns-2

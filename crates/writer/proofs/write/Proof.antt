@@ -45,8 +45,8 @@ copy-requires c κs =
     )
 
 -- src/lib.rt:80:55
-add-t17 : tie.Need-add-t17
-add-t17 c =
+add-size : tie.Need-add-size
+add-size c =
     let a = c .before .before .before .before .before .before .before .before .before .before .before .before .before .args in
     let good = sym (c .before .before .before .before .before .before .before .before .before .before .fault .ensures) ∙ c .before .before .before .before .before .before .before .before .enum-told .given .1 in
     omega (
@@ -88,7 +88,7 @@ write-spec =
     enum-told
     pack-requires
     copy-requires
-    add-t17
+    add-size
     returns
     same-length
     returns-2)
