@@ -7,7 +7,8 @@ use native.Mathlib.Nat.{add-comm}
 use native.Mathlib.Omega.{arith}
 use borrow.Author.Tests.{leb-true}
 use lib.Dec.{ltb}
-use lib.ListN.{length, take, drop}
+use lib.ListN.{length, take, drop, length-drop}
+use lib.Seq.{take-all}
 use Rattle.refusals.specs.declared.Refusal.{Refusal}
 use Rattle.refusals.specs.declared.Answer.{Answer}
 use Rattle.refusals.specs.Numbering.{unless}
@@ -19,7 +20,7 @@ use Rattle.table.specs.Tables.{entryAt, labelsBefore}
 use Rattle.script.specs.declared.Span.{Span}
 use Rattle.script.specs.declared.Label.{Label}
 use Rattle.script.specs.Labels.{printable, text, label, labels}
-use Rattle.script.specs.Reader.{packedTable, scriptOf, noLabel, labelSpan, labelReply, labelIn, labelOf}
+use Rattle.script.specs.Reader.{packedTable, scriptOf, noLabel, labelSpan, labelReply, labelIn, labelOf, blockAfter, blockIn, blockOf}
 use Rattle.roundtrip.specs.ReadGiving.{Gives, gives-value, gives-refused, gives-onward, gives-field}
 use Rattle.reader.specs.Scans.{spanAfter, spanIn, blockSpan}
 use Rattle.reader.specs.ScanLaws.{block-begins}
@@ -78,6 +79,19 @@ block-in-inside s (refused r) = omega arith
 pub block-inside : (s : List ℕ) → Inside s (blockSpan s)
 unfolding blockSpan
 block-inside s = block-in-inside s (scriptOf s)
+
+-- the part where the block stands holds the block
+after-text : (s : List ℕ) (m : Got Table) → take (spanAfter s m .size) (drop (spanAfter s m .from) s) ≡ blockAfter s m
+after-text s (got t at) = take-all (length s - at / 8) (drop (at / 8) s) (omega (arith, length-drop (at / 8) s))
+after-text s (refused r) = refl
+
+in-text : (s : List ℕ) (m : Got Table) → take (spanIn s m .size) (drop (spanIn s m .from) s) ≡ blockIn s m
+in-text s (got t end) = after-text s (packedTable s 0)
+in-text s (refused r) = refl
+
+pub block-text : (s : List ℕ) → take (blockSpan s .size) (drop (blockSpan s .from) s) ≡ blockOf s
+unfolding blockSpan blockOf
+block-text s = in-text s (scriptOf s)
 
 -- a part that was found is the part that the definition names: it stands within the bytes, holds the text, and stands at its place
 module _ (s : List ℕ) {x y : Span} (is : x ≡ y) where

@@ -3,7 +3,7 @@ use refusals::Answer;
 ghost use mathlib.Core.Path.{_≡_};
 ghost use Prim.Native.Nat.{_+_};
 ghost use lib.ListN.{take, drop};
-ghost use Rattle.script.specs.Reader.{labelOf};
+ghost use Rattle.script.specs.Reader.{labelOf, blockOf};
 ghost use Rattle.reader.specs.Scans.{blockSpan};
 ghost use Rattle.parts.specs.Shown.{outcomeNumber, scriptNumber};
 
@@ -34,7 +34,7 @@ pub fn label<'a>(s: &'a [u8], k: usize, number: &mut u8) -> &'a [u8]
 
 // The block of labels of a script, as the writer takes it; refused, the part is empty.
 pub fn block<'a>(s: &'a [u8], number: &mut u8) -> &'a [u8]
-    ensures text { λ r. ⌜ now r ≡ take (blockSpan (now (s .entry)) .size) (drop (blockSpan (now (s .entry)) .from) (now (s .entry))) ⌝ }
+    ensures text { λ r. ⌜ now r ≡ blockOf (now (s .entry)) ⌝ }
     ensures place { λ r. ⌜ (r .ptr .0 ≡ s .entry .ptr .0) × (r .ptr .1 ≡ s .entry .ptr .1 + blockSpan (now (s .entry)) .from) ⌝ }
     ensures number { λ r. ⌜ now (number .exit) ≡ scriptNumber (now (s .entry)) ⌝ }
 {

@@ -8,7 +8,7 @@ use Rattle.script.specs.declared.Span.{Span}
 use Rattle.reader.specs.declared.Scan.{Scan}
 use Rattle.reader.specs.Scans.{blockSpan, scanOf}
 use Rattle.parts.specs.Shown.{outcomeNumber}
-use Rattle.parts.specs.Within.{Inside, part-inside, part-text, part-place, block-inside}
+use Rattle.parts.specs.Within.{Inside, part-inside, part-text, part-place, block-inside, block-text}
 use Rattle.parts.proofs.block.Statement.{statement}
 use Rattle.parts.proofs.block.Tie as tie
 
@@ -36,7 +36,7 @@ returns : tie.Need-returns
 unfolding scanOf
 returns c =
     let p : tie.After-scan-script = c .before .before .before .before in
-    (part-text (bytes p) (found-is p), ((refl, part-place (bytes p) (found-is p) (p .before .before .args .s .ptr .1)), c .before .before .before .outcome .ensures ∙ ap (λ (x : Scan). outcomeNumber (x .answer)) (p .scan-script .ensures)))
+    (part-text (bytes p) (found-is p) ∙ block-text (bytes p), ((refl, part-place (bytes p) (found-is p) (p .before .before .args .s .ptr .1)), c .before .before .before .outcome .ensures ∙ ap (λ (x : Scan). outcomeNumber (x .answer)) (p .scan-script .ensures)))
 
 pub block-spec : {M : Type 1} → statement M
 block-spec =
