@@ -42,7 +42,7 @@ pub fn block<'a>(s: &'a [u8], number: &mut u8) -> &'a [u8]
     let answer = scan.answer;
     *number = outcome(answer);
     let span = scan.block;
-    let from = span.from;
-    let end = from + span.size;
-    &s[from..end]
+    let first = span.from;
+    let last = first + span.size;
+    &s[first..last]
 }

@@ -26,8 +26,8 @@ found-is p = ap (λ (x : Scan). x .block) (p .scan-script .ensures)
 inside : (p : tie.After-scan-script) → Inside (bytes p) (found p)
 inside p = part-inside (bytes p) (found-is p) (block-inside (bytes p))
 
-add-end : tie.Need-add-end
-add-end c = let h = inside (c .before .before .before) in record { fits = omega arith }
+add-last : tie.Need-add-last
+add-last c = let h = inside (c .before .before .before) in record { fits = omega arith }
 
 part-result-end : tie.Need-part-result-end
 part-result-end c = let h = inside (c .before .before .before) in omega arith
@@ -44,7 +44,7 @@ block-spec =
     (tie.spec
     (λ c κs. search needs)
     (λ c κs. search needs)
-    add-end
+    add-last
     (λ c. search needs)
     (λ c. search needs)
     part-result-end
