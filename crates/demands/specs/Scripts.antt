@@ -62,6 +62,16 @@ reply-accepted Answer.Accepted script destination size e =
     (refl, ap (λ (n : ℕ). take n (script ++ drop (length script) destination)) all ∙ take-append-seam script (drop (length script) destination))
 reply-accepted (Answer.Refused r) script destination size e = let answer = ap (λ (x : Written). x .answer) e in let z : _≡_ {A = ℕ} 0 1 = cc in absurd (omega arith)
 
+-- (b) a table and a block that the writer accepts, read again, are the same table and labels
+pub our-tables-return : TablesReturn ours
+unfolding writeScript writeBytes
+our-tables-return =
+    record {
+      same = λ t shaped block destination size wrote.
+        let done = reply-accepted (writerFault t block (length destination)) (scriptBytes t block) destination size wrote in
+        (rw (done .1) (table-again t shaped block (length destination) (done .0)), rw (done .1) (labels-again t shaped block (length destination) (done .0)));
+    }
+
 -- (a) a script that the reader accepts, written again from its table and its labels, gives the same bytes
 pub our-scripts-return : ScriptsReturn ours
 unfolding readScript writeScript writeBytes
@@ -72,16 +82,6 @@ our-scripts-return =
         let again = script-again s bytes t (whole .0) (whole .1) in
         let taken = writer-takes s bytes t (whole .0) (whole .1) (length destination) room in
         (rw (taken, again) refl, rw (taken, again) refl);
-    }
-
--- (b) a table and a block that the writer accepts, read again, are the same table and labels
-pub our-tables-return : TablesReturn ours
-unfolding writeScript writeBytes
-our-tables-return =
-    record {
-      same = λ t shaped block destination size wrote.
-        let done = reply-accepted (writerFault t block (length destination)) (scriptBytes t block) destination size wrote in
-        (rw (done .1) (table-again t shaped block (length destination) (done .0)), rw (done .1) (labels-again t shaped block (length destination) (done .0)));
     }
 
 -- "so no two scripts mean one table and labels"
