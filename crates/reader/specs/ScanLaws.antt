@@ -8,6 +8,7 @@ use native.Mathlib.Omega.{arith}
 use borrow.Author.Tests.{le-ltb, lt-ltb, ltb-true}
 use lib.Dec.{ltb}
 use lib.ListN.{length}
+use Rattle.replies.specs.Plain.{both-true}
 use Rattle.refusals.specs.declared.Refusal.{Refusal}
 use Rattle.refusals.specs.declared.Answer.{Answer}
 use Rattle.bits.specs.Reading.{Got, got, refused, onward, onward-onward, ended}
@@ -98,11 +99,6 @@ among-refused among one (refused q) r t e = cc
 among-read : (among : Bool) (one : Got Span) (m : Got ℕ) → amongReply among one m .answer ≡ Answer.Accepted → (c : ℕ) × (end : ℕ) × (m ≡ got c end)
 among-read among one (got c end) e = (c, end, refl)
 among-read among one (refused q) e = let z : _≡_ {A = ℕ} 0 1 = cc in absurd (omega arith)
-
--- both of two tests that were passed
-both-true : (a b : Bool) → (a && b) ≡ true → (a ≡ true) × (b ≡ true)
-both-true true b e = (refl, e)
-both-true false b e = (e, cc)
 
 module _ (s : List ℕ) (t : Table) (at : ℕ) (room : length s ≤ limits .script) (there : packedTable s 0 ≡ got t at) where
   -- a script that is accepted, with a label
