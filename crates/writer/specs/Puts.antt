@@ -53,7 +53,7 @@ pub puts-padded : {s s' s'' : List ℕ} {at end : ℕ} {ps : List Part} → Puts
     → Puts s 0 (padded ps) s'' (8 * (end / 8))
 puts-padded {s = s} {s'' = s''} {at = at} {end = end} {ps = ps} first zeros =
     let all : Puts s 0 (padded ps) s'' end =
-      subst (λ (n : ℕ). Puts s 0 (ps ++ (part (paddingAt n) 0 ∷ [])) s'' end) (first .ends ∙ zero-add (widthOfAll ps)) (puts-more first zeros) in
+    subst (λ (n : ℕ). Puts s 0 (ps ++ (part (paddingAt n) 0 ∷ [])) s'' end) (first .ends ∙ zero-add (widthOfAll ps)) (puts-more first zeros) in
     record { bytes = all .bytes; ends = omega (arith, all .ends, width-padded ps) }
 
 -- where a field ends

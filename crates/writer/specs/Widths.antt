@@ -75,10 +75,11 @@ entry-wide e =
 entry-narrow : (e : Entry) → Narrow (entryParts e)
 unfolding Narrow
 entry-narrow e =
-    rw (entry-parts e)
-    (omega arith,
-    narrow-append (operandParts (apartOf e .first)) (operandParts (apartOf e .second) ++ operandParts (apartOf e .third)) (operand-narrow (apartOf e .first))
-    (narrow-append (operandParts (apartOf e .second)) (operandParts (apartOf e .third)) (operand-narrow (apartOf e .second)) (operand-narrow (apartOf e .third))))
+    rw (entry-parts e) (
+      omega arith,
+      narrow-append (operandParts (apartOf e .first)) (operandParts (apartOf e .second) ++ operandParts (apartOf e .third)) (operand-narrow (apartOf e .first))
+          (narrow-append (operandParts (apartOf e .second)) (operandParts (apartOf e .third)) (operand-narrow (apartOf e .second)) (operand-narrow (apartOf e .third))),
+    )
 
 -- a number's fields
 number-width : (y : Number) → widthOfAll (numberParts y) ≡ 49

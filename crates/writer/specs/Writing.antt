@@ -106,10 +106,13 @@ writable t block room good =
 pub packed-ends : {s s' : List ℕ} (t : Table) (packed : ℕ) → Puts s 0 (padded (tableParts t)) s' (8 * packed) → packed ≡ packedSize t
 packed-ends t packed put = omega (arith, put .ends, width-padded (tableParts t))
 
+-- "fills the first bytes; all later bytes of the destination stay"
+abbrev pub filledWith : List ℕ → List ℕ → List ℕ
+filledWith script destination = script ++ drop (length script) destination
+
 -- the packed table at the front, the block behind it, and after them the bytes as they were
 pub filled : (t : Table) (block destination packed : List ℕ) (size : ℕ) → Bytes destination → packedSize t + length block ≤ length destination
-    → Puts destination 0 (padded (tableParts t)) packed (8 * size)
-    → paste packed size block (length block) ≡ scriptBytes t block ++ drop (length (scriptBytes t block)) destination
+    → Puts destination 0 (padded (tableParts t)) packed (8 * size) → paste packed size block (length block) ≡ filledWith (scriptBytes t block) destination
 unfolding scriptBytes
 filled t block destination packed size bytes room put =
     rw (
@@ -136,13 +139,13 @@ filled t block destination packed size bytes room put =
 
 -- a script that is written: the reply
 pub written-reply : (t : Table) (block destination : List ℕ) → writerFault t block (length destination) ≡ Answer.Accepted
-    → writeScript t block destination ≡ record { answer = Answer.Accepted; size = packedSize t + length block }
+    → writeScript t block destination ≡ record { answer = Answer.Accepted; size = length (scriptBytes t block) }
 unfolding writeScript
-written-reply t block destination good = rw (good, script-length t block)
+written-reply t block destination good = rw good
 
 -- and the destination
 pub written-bytes : (t : Table) (block destination : List ℕ) → writerFault t block (length destination) ≡ Answer.Accepted
-    → writeBytes t block destination ≡ scriptBytes t block ++ drop (length (scriptBytes t block)) destination
+    → writeBytes t block destination ≡ filledWith (scriptBytes t block) destination
 unfolding writeBytes
 written-bytes t block destination good = rw good
 

@@ -48,11 +48,12 @@ loop-less c = search needs
 loop-again : tie.Need-loop-again Inv-loop μ-loop
 loop-again c =
     let a = c .before .before .before .args in
-    let i = c .before .before .loop .i in
-    (omega arith,
-    ap (λ (d : List ℕ). set d (a .from + i) (getD (a .block .now) i 0)) (c .before .before .loop .inv .1)
-    ∙ paste-suc (a .dst .now) (a .from) (a .block .now) i 0 (omega arith) (omega arith)
-    ∙ ap (paste (a .dst .now) (a .from) (a .block .now)) (sym (add-one i)))
+    let i = c .before .before .loop .i in (
+      omega arith,
+      ap (λ (d : List ℕ). set d (a .from + i) (getD (a .block .now) i 0)) (c .before .before .loop .inv .1)
+          ∙ paste-suc (a .dst .now) (a .from) (a .block .now) i 0 (omega arith) (omega arith)
+          ∙ ap (paste (a .dst .now) (a .from) (a .block .now)) (sym (add-one i)),
+    )
 
 -- src/lib.rt:59:1
 same-length : tie.Need-same-length Inv-loop μ-loop

@@ -73,8 +73,8 @@ returns-3 : tie.Need-returns-3
 returns-3 c =
     let a = c .before .before .before .before .before .before .before .before .before .args in
     let room = room-last (a .t) (a .block .now) (a .room)
-      (sym (c .before .before .before .before .before .before .before .fault .ensures) ∙ c .before .before .before .before .before .enum-told .given .1)
-      (sym (c .before .before .before .before .block-fault .ensures) ∙ c .before .before .enum-told2 .given .1) in
+    (sym (c .before .before .before .before .before .before .before .fault .ensures) ∙ c .before .before .before .before .before .enum-told .given .1)
+    (sym (c .before .before .before .before .block-fault .ensures) ∙ c .before .before .enum-told2 .given .1) in
     c .room-fault .ensures ∙ ap (λ (n : ℕ). roomFault (n + length (a .block .now)) (a .room)) (c .before .packed-size .ensures) ∙ sym room
 
 pub fault-spec : {M : Type 1} → statement M
