@@ -137,26 +137,31 @@ filled t block destination packed size bytes room put =
         ∙ drop-append-add table rest (length block)
         ∙ drop-drop (length block) (packedSize t) destination
 
--- a script that is written: the reply
-pub written-reply : (t : Table) (block destination : List ℕ) → writerFault t block (length destination) ≡ Answer.Accepted
-    → writeScript t block destination ≡ record { answer = Answer.Accepted; size = length (scriptBytes t block) }
+-- an answer that is the writer's, and accepts: what is known of the script
+pub writable-told : {a : Answer} (t : Table) (block : List ℕ) (room : ℕ) → a ≡ writerFault t block room → a ≡ Answer.Accepted → Writable t block room
+writable-told t block room is accepted = writable t block room (sym is ∙ accepted)
+
+-- the reply
+pub written-reply : {a : Answer} {size : ℕ} (t : Table) (block destination : List ℕ) → a ≡ writerFault t block (length destination)
+    → a ≡ Answer.Accepted → size ≡ length (scriptBytes t block)
+    → record { answer = Answer.Accepted; size = size } ≡ writeScript t block destination
 unfolding writeScript
-written-reply t block destination good = rw good
+written-reply t block destination is accepted long = rw (sym is ∙ accepted, long)
 
 -- and the destination
-pub written-bytes : (t : Table) (block destination : List ℕ) → writerFault t block (length destination) ≡ Answer.Accepted
-    → writeBytes t block destination ≡ filledWith (scriptBytes t block) destination
+pub written-bytes : {a : Answer} {final : List ℕ} (t : Table) (block destination : List ℕ) → a ≡ writerFault t block (length destination)
+    → a ≡ Answer.Accepted → final ≡ filledWith (scriptBytes t block) destination → final ≡ writeBytes t block destination
 unfolding writeBytes
-written-bytes t block destination good = rw good
+written-bytes t block destination is accepted fills = rw (sym is ∙ accepted) fills
 
--- a script that is refused: the reply
-pub refused-reply : (t : Table) (block destination : List ℕ) (r : Refusal) → writerFault t block (length destination) ≡ Answer.Refused r
-    → writeScript t block destination ≡ record { answer = Answer.Refused r; size = 0 }
+-- an answer that refuses: the reply
+pub refused-reply : {a : Answer} {r : Refusal} (t : Table) (block destination : List ℕ) → a ≡ writerFault t block (length destination)
+    → a ≡ Answer.Refused r → record { answer = Answer.Refused r; size = 0 } ≡ writeScript t block destination
 unfolding writeScript
-refused-reply t block destination r bad = rw bad
+refused-reply t block destination is bad = rw (sym is ∙ bad)
 
 -- and the destination, which stays as it was
-pub refused-bytes : (t : Table) (block destination : List ℕ) (r : Refusal) → writerFault t block (length destination) ≡ Answer.Refused r
-    → writeBytes t block destination ≡ destination
+pub refused-bytes : {a : Answer} {r : Refusal} (t : Table) (block destination : List ℕ) → a ≡ writerFault t block (length destination)
+    → a ≡ Answer.Refused r → destination ≡ writeBytes t block destination
 unfolding writeBytes
-refused-bytes t block destination r bad = rw bad
+refused-bytes t block destination is bad = rw (sym is ∙ bad)
