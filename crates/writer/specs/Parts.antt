@@ -7,7 +7,7 @@ use native.Mathlib.Omega.{arith}
 use Rattle.bits.specs.Bits.{Part}
 use Rattle.table.specs.declared.Entry.{Entry}
 use Rattle.table.specs.declared.Table.{Table}
-use Rattle.table.specs.Kinds.{kindOf, operandsOf}
+use Rattle.table.specs.Kinds.{kindOf}
 use Rattle.table.specs.Kinds as kinds
 use Rattle.table.specs.Tables.{initialOf, entryAt}
 use Rattle.script.specs.Operands.{widthOf, fieldOf}
@@ -17,17 +17,13 @@ use Rattle.kinds.specs.declared.Apart.{Apart}
 use Rattle.kinds.specs.Apart.{apartOf, namedBy, wideOf, numberOf}
 use Rattle.kinds.specs.Laws.{operands-apart}
 
+-- the field of an operand of the table of kinds
+abbrev pub operandPart : kinds.Operand → Part
+operandPart o = part (widthOf o) (fieldOf o)
+
 -- an operand's field, or none
 abbrev pub operandParts : Operand → List Part
-operandParts Operand.Nothing = []
-operandParts (Operand.Entry s a) = part (wideOf (Operand.Entry s a)) (numberOf (Operand.Entry s a)) ∷ []
-operandParts (Operand.Imported s i) = part (wideOf (Operand.Imported s i)) (numberOf (Operand.Imported s i)) ∷ []
-operandParts (Operand.Variable x) = part (wideOf (Operand.Variable x)) (numberOf (Operand.Variable x)) ∷ []
-operandParts (Operand.Constant z) = part (wideOf (Operand.Constant z)) (numberOf (Operand.Constant z)) ∷ []
-
--- the field of an operand of the table of kinds
-abbrev operandPart : kinds.Operand → Part
-operandPart o = part (widthOf o) (fieldOf o)
+operandParts o = map operandPart (namedBy o)
 
 -- every import's bit
 abbrev pub importsParts : Table → ℕ → List Part
@@ -62,14 +58,6 @@ operand-some (Operand.Imported s i) some = refl
 operand-some (Operand.Variable x) some = refl
 operand-some (Operand.Constant z) some = refl
 
--- an operand's fields are those of the operand that it names
-named-parts : (o : Operand) → operandParts o ≡ map operandPart (namedBy o)
-named-parts Operand.Nothing = refl
-named-parts (Operand.Entry s a) = refl
-named-parts (Operand.Imported s i) = refl
-named-parts (Operand.Variable x) = refl
-named-parts (Operand.Constant z) = refl
-
 -- the fields of an entry that was taken apart: its kind, then its three operands
 abbrev pub apartParts : Apart → List Part
 apartParts a = part 5 (a .kind) ∷ (operandParts (a .first) ++ (operandParts (a .second) ++ operandParts (a .third)))
@@ -79,5 +67,4 @@ pub entry-parts : (e : Entry) → entryParts e ≡ apartParts (apartOf e)
 unfolding entryParts apartOf
 entry-parts e =
     ap (λ (l : List Part). part 5 (kindOf e) ∷ l)
-    (ap (map operandPart) (sym (operands-apart e))
-    ∙ rw (map-append operandPart, map-append operandPart, named-parts (apartOf e .first), named-parts (apartOf e .second), named-parts (apartOf e .third)) refl)
+    (ap (map operandPart) (sym (operands-apart e)) ∙ rw (map-append operandPart, map-append operandPart) refl)

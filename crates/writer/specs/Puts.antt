@@ -52,9 +52,11 @@ puts-start f = puts-none
 pub puts-padded : {s s' s'' : List ℕ} {at end : ℕ} {ps : List Part} → Puts s 0 ps s' at → Puts s' at (part (paddingAt at) 0 ∷ []) s'' end
     → Puts s 0 (padded ps) s'' (8 * (end / 8))
 puts-padded {s = s} {s'' = s''} {at = at} {end = end} {ps = ps} first zeros =
-    let all : Puts s 0 (padded ps) s'' end =
-      subst (λ (n : ℕ). Puts s 0 (ps ++ (part (paddingAt n) 0 ∷ [])) s'' end) (first .ends ∙ zero-add (widthOfAll ps)) (puts-more first zeros) in
     record { bytes = all .bytes; ends = omega (arith, all .ends, width-padded ps) }
+  where
+    all : Puts s 0 (padded ps) s'' end
+    all =
+        subst (λ (n : ℕ). Puts s 0 (ps ++ (part (paddingAt n) 0 ∷ [])) s'' end) (first .ends ∙ zero-add (widthOfAll ps)) (puts-more first zeros)
 
 -- where a field ends
 pub field-ends : {s s' : List ℕ} {at w v next : ℕ} → Puts s at (part w v ∷ []) s' next → next ≡ at + w

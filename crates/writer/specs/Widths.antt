@@ -1,7 +1,6 @@
 -- How many bits a table's fields take, and that none is wider than the widest.
-use mathlib.Core.Bool.{cond}
-use mathlib.Core.List.{List, [], _∷_, _++_}
-use mathlib.Core.Path.{_≡_, refl, _∙_, ap, subst}
+use mathlib.Core.List.{List, _++_}
+use mathlib.Core.Path.{_≡_, refl, _∙_, ap}
 use Prim.Native.Nat.{ℕ, zero, suc, _+_, _*_, _≤_}
 use native.Mathlib.Nat.{suc-mul}
 use native.Mathlib.Omega.{arith}
@@ -75,10 +74,11 @@ entry-wide e =
 entry-narrow : (e : Entry) → Narrow (entryParts e)
 unfolding Narrow
 entry-narrow e =
-    rw (entry-parts e)
-    (omega arith,
-    narrow-append (operandParts (apartOf e .first)) (operandParts (apartOf e .second) ++ operandParts (apartOf e .third)) (operand-narrow (apartOf e .first))
-    (narrow-append (operandParts (apartOf e .second)) (operandParts (apartOf e .third)) (operand-narrow (apartOf e .second)) (operand-narrow (apartOf e .third))))
+    rw (entry-parts e) (
+      omega arith,
+      narrow-append (operandParts (apartOf e .first)) (operandParts (apartOf e .second) ++ operandParts (apartOf e .third)) (operand-narrow (apartOf e .first))
+          (narrow-append (operandParts (apartOf e .second)) (operandParts (apartOf e .third)) (operand-narrow (apartOf e .second)) (operand-narrow (apartOf e .third))),
+    )
 
 -- a number's fields
 number-width : (y : Number) → widthOfAll (numberParts y) ≡ 49

@@ -1,11 +1,11 @@
 -- A script written: how long it is, in which order its faults come, and what the destination holds then.
 use mathlib.Core.List.{List, _++_}
-use mathlib.Core.Path.{_≡_, refl, sym, _∙_, ap, ap₂}
+use mathlib.Core.Path.{_≡_, refl, sym, _∙_, ap}
 use Prim.Native.Nat.{ℕ, _+_, _*_, _/_, _<_, _≤_}
 use native.Mathlib.Omega.{arith}
 use borrow.Author.Tests.{leb-true, le-leb, lt-leb}
 use lib.Dec.{leb, ltb}
-use lib.ListN.{length, take, drop, length-append}
+use lib.ListN.{length, drop, length-append}
 use lib.Seq.{paste, take-at, take-length, drop-append-add, drop-drop}
 use Rattle.refusals.specs.declared.Refusal.{Refusal}
 use Rattle.refusals.specs.declared.Answer.{Answer}
@@ -106,10 +106,13 @@ writable t block room good =
 pub packed-ends : {s s' : List ℕ} (t : Table) (packed : ℕ) → Puts s 0 (padded (tableParts t)) s' (8 * packed) → packed ≡ packedSize t
 packed-ends t packed put = omega (arith, put .ends, width-padded (tableParts t))
 
+-- "fills the first bytes; all later bytes of the destination stay"
+abbrev pub filledWith : List ℕ → List ℕ → List ℕ
+filledWith script destination = script ++ drop (length script) destination
+
 -- the packed table at the front, the block behind it, and after them the bytes as they were
 pub filled : (t : Table) (block destination packed : List ℕ) (size : ℕ) → Bytes destination → packedSize t + length block ≤ length destination
-    → Puts destination 0 (padded (tableParts t)) packed (8 * size)
-    → paste packed size block (length block) ≡ scriptBytes t block ++ drop (length (scriptBytes t block)) destination
+    → Puts destination 0 (padded (tableParts t)) packed (8 * size) → paste packed size block (length block) ≡ filledWith (scriptBytes t block) destination
 unfolding scriptBytes
 filled t block destination packed size bytes room put =
     rw (
@@ -134,26 +137,31 @@ filled t block destination packed size bytes room put =
         ∙ drop-append-add table rest (length block)
         ∙ drop-drop (length block) (packedSize t) destination
 
--- a script that is written: the reply
-pub written-reply : (t : Table) (block destination : List ℕ) → writerFault t block (length destination) ≡ Answer.Accepted
-    → writeScript t block destination ≡ record { answer = Answer.Accepted; size = packedSize t + length block }
+-- an answer that is the writer's, and accepts: what is known of the script
+pub writable-told : {a : Answer} (t : Table) (block : List ℕ) (room : ℕ) → a ≡ writerFault t block room → a ≡ Answer.Accepted → Writable t block room
+writable-told t block room is accepted = writable t block room (sym is ∙ accepted)
+
+-- the reply
+pub written-reply : {a : Answer} {size : ℕ} (t : Table) (block destination : List ℕ) → a ≡ writerFault t block (length destination)
+    → a ≡ Answer.Accepted → size ≡ length (scriptBytes t block)
+    → record { answer = Answer.Accepted; size = size } ≡ writeScript t block destination
 unfolding writeScript
-written-reply t block destination good = rw (good, script-length t block)
+written-reply t block destination is accepted long = rw (sym is ∙ accepted, long)
 
 -- and the destination
-pub written-bytes : (t : Table) (block destination : List ℕ) → writerFault t block (length destination) ≡ Answer.Accepted
-    → writeBytes t block destination ≡ scriptBytes t block ++ drop (length (scriptBytes t block)) destination
+pub written-bytes : {a : Answer} {final : List ℕ} (t : Table) (block destination : List ℕ) → a ≡ writerFault t block (length destination)
+    → a ≡ Answer.Accepted → final ≡ filledWith (scriptBytes t block) destination → final ≡ writeBytes t block destination
 unfolding writeBytes
-written-bytes t block destination good = rw good
+written-bytes t block destination is accepted fills = rw (sym is ∙ accepted) fills
 
--- a script that is refused: the reply
-pub refused-reply : (t : Table) (block destination : List ℕ) (r : Refusal) → writerFault t block (length destination) ≡ Answer.Refused r
-    → writeScript t block destination ≡ record { answer = Answer.Refused r; size = 0 }
+-- an answer that refuses: the reply
+pub refused-reply : {a : Answer} {r : Refusal} (t : Table) (block destination : List ℕ) → a ≡ writerFault t block (length destination)
+    → a ≡ Answer.Refused r → record { answer = Answer.Refused r; size = 0 } ≡ writeScript t block destination
 unfolding writeScript
-refused-reply t block destination r bad = rw bad
+refused-reply t block destination is bad = rw (sym is ∙ bad)
 
 -- and the destination, which stays as it was
-pub refused-bytes : (t : Table) (block destination : List ℕ) (r : Refusal) → writerFault t block (length destination) ≡ Answer.Refused r
-    → writeBytes t block destination ≡ destination
+pub refused-bytes : {a : Answer} {r : Refusal} (t : Table) (block destination : List ℕ) → a ≡ writerFault t block (length destination)
+    → a ≡ Answer.Refused r → destination ≡ writeBytes t block destination
 unfolding writeBytes
-refused-bytes t block destination r bad = rw bad
+refused-bytes t block destination is bad = rw (sym is ∙ bad)

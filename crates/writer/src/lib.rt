@@ -12,9 +12,9 @@ ghost use mathlib.Core.Path.{_≡_};
 ghost use Prim.Native.Nat.{_+_, _≤_};
 ghost use lib.ListN.{length};
 ghost use lib.Seq.{paste};
-ghost use Rattle.script.specs.Writer.{blockFault, writerFault, writeScript, writeBytes};
+ghost use Rattle.script.specs.Writer.{scriptBytes, blockFault, writerFault, writeScript, writeBytes};
 ghost use Rattle.roundtrip.specs.WrittenSound.{Limited};
-ghost use Rattle.writer.specs.Writing.{roomFault};
+ghost use Rattle.writer.specs.Writing.{roomFault, Writable, filledWith};
 
 // "the block (2, 10, 11)"
 fn block_fault(t: Table, block: &[u8]) -> Answer
@@ -65,18 +65,30 @@ fn copy(dst: &mut [u8], from: usize, block: &[u8])
     }
 }
 
+// The packed table at the front, and the block behind it; how many bytes they are.
+fn fill(dst: &mut [u8], t: Table, block: &[u8]) -> usize
+    requires { ⌜ Writable t (now block) (length (now dst)) ⌝ }
+    ensures size { λ r. ⌜ r ≡ length (scriptBytes t (now (block .entry))) ⌝ }
+    ensures bytes { λ r. ⌜ now (dst .exit) ≡ filledWith (scriptBytes t (now (block .entry))) (now (dst .entry)) ⌝ }
+{
+    let packed = pack(dst, t);
+    copy(dst, packed, block);
+    packed + block.len()
+}
+
 // A table and its labels as a script: "An accepted write fills the first bytes; all later bytes of the destination stay."
 pub fn write(t: Table, block: &[u8], dst: &mut [u8]) -> Written
     ensures reply { λ r. ⌜ r ≡ writeScript t (now (block .entry)) (now (dst .entry)) ⌝ }
     ensures bytes { λ r. ⌜ now (dst .exit) ≡ writeBytes t (now (block .entry)) (now (dst .entry)) ⌝ }
 {
     match fault(t, block, dst.len()) {
-        Answer::Refused(r) => Written { answer: Answer::Refused(r), size: 0 },
-        Answer::Accepted => {
-            let packed = pack(dst, t);
-            copy(dst, packed, block);
-            let size = packed + block.len();
-            Written { answer: Answer::Accepted, size: size }
-        }
+        Answer::Refused(r) => Written {
+            answer: Answer::Refused(r),
+            size: 0,
+        },
+        Answer::Accepted => Written {
+            answer: Answer::Accepted,
+            size: fill(dst, t, block),
+        },
     }
 }

@@ -3,7 +3,6 @@ use kinds::Operand;
 use table::Entry;
 use table::Table;
 use values::Number;
-ghost use mathlib.Core.Path.{_≡_};
 ghost use mathlib.Core.List.{[], _∷_};
 ghost use Prim.Native.Nat.{_*_, _≤_};
 ghost use Rattle.bits.specs.Packing.{padded};

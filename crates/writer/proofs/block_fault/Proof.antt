@@ -1,28 +1,15 @@
+-- `writer::block_fault` meets its contract: there are as many labels as entries with a label, and their answer does not depend on the wanted one.
 use mathlib.Core.Path.{_∙_, ap}
 use Prim.Native.Nat.{ℕ}
 use native.Mathlib.Nat.{min-eq-left}
-use lib.ListN.{length}
+use borrow.Author.Needs.{needs}
 use Rattle.table.specs.Tables.{labelsBefore}
 use Rattle.script.specs.declared.Label.{Label}
 use Rattle.labels.specs.Among.{labelAmong}
 use Rattle.writer.specs.Writing.{block-answer}
-use borrow.Author.Needs.{needs}
 use Rattle.writer.proofs.block_fault.Statement.{statement}
 use Rattle.writer.proofs.block_fault.Tie as tie
-use Rattle.writer.proofs.block_fault.Reads as reads
-use Rattle.writer.proofs.block_fault.Lts as lts
-use Rattle.labels.proofs.before.Reads as before-reads
-use Rattle.labels.proofs.read.Reads as read-reads
 
--- src/lib.rt:25:9
-before-requires : tie.Need-before-requires
-before-requires c κs = search needs
-
--- src/lib.rt:26:9
-read-requires : tie.Need-read-requires
-read-requires c κs = search needs
-
--- src/lib.rt:21:1
 returns : tie.Need-returns
 returns c =
     let start = c .before .before .before in
@@ -33,4 +20,4 @@ returns c =
     ∙ block-answer (start .args .t) (start .args .block .now) count
 
 pub block-fault-spec : {M : Type 1} → statement M
-block-fault-spec = tie.close (tie.spec before-requires read-requires returns)
+block-fault-spec = tie.close (tie.spec (λ c κs. search needs) (λ c κs. search needs) returns)
