@@ -5,7 +5,7 @@ use native.Mathlib.Omega.{arith}
 use borrow.Author.Needs.{needs}
 use lib.ListN.{length}
 use Rattle.script.specs.Orders.{table-first, block-next}
-use Rattle.roundtrip.specs.WrittenSound.{sound-table}
+use Rattle.table.specs.Sound.{sound-table}
 use Rattle.writer.specs.Writing.{roomFault, packed-small, room-last}
 use Rattle.writer.proofs.fault.Statement.{statement}
 use Rattle.writer.proofs.fault.Tie as tie
