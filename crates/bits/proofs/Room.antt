@@ -1,11 +1,12 @@
 -- Whether a field is wholly there, tested by bytes so that no sum can overflow.
-use mathlib.Core.Bool.{Bool, true, false, _&&_, false≢true}
-use mathlib.Core.Path.{_≡_, refl, sym, _∙_}
+use mathlib.Core.Bool.{Bool, true, false, _&&_}
+use mathlib.Core.Path.{_≡_, sym, _∙_}
 use Prim.Native.Nat.{ℕ, _+_, _-_, _*_, _/_, _%_, _<_, _≤_}
 use native.Mathlib.Decide.{decLe}
 use native.Mathlib.Omega.{arith}
 use borrow.Author.Tests.{le-leb, lt-leb, leb-true}
 use lib.Dec.{leb}
+use Rattle.replies.specs.Plain.{both-true}
 use Rattle.bits.specs.Bits.{widest}
 
 leb-same : (a b c d : ℕ) → (a ≤ b → c ≤ d) → (c ≤ d → a ≤ b) → leb a b ≡ leb c d
@@ -17,10 +18,6 @@ leb-same a b c d f g = by (decLe c d)
       where
         ne : a ≤ b → ⊥
         ne e = h (f e)
-
-both : (p q : Bool) → (p && q) ≡ true → (p ≡ true) × (q ≡ true)
-both true q e = (refl, e)
-both false q e = absurd (false≢true e)
 
 module _ (len at w : ℕ) where
   abbrev room : Bool
@@ -43,5 +40,5 @@ module _ (len at w : ℕ) where
 
   pub has-room : {r : Bool} → r ≡ room → r ≡ true → (w ≤ 48) × (at + w ≤ 8 * len)
   has-room e k =
-      let h : (leb w widest ≡ true) × (leb (at + w) (8 * len) ≡ true) = both _ _ (sym e ∙ k) in
+      let h : (leb w widest ≡ true) × (leb (at + w) (8 * len) ≡ true) = both-true _ _ (sym e ∙ k) in
       (leb-true w 48 (h .0), leb-true (at + w) (8 * len) (h .1))

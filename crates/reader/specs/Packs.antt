@@ -62,6 +62,13 @@ goes (Answer.Refused r) t at m e no-way = let z : _≡_ {A = ℕ} 0 1 = cc in ab
 pub stage-goes : (stage : Stage) (m : Got Table) → reached stage ≡ m → isRefused (stage .answer) ≡ false → m ≡ got (stage .table) (stage .at)
 stage-goes stage m e on = goes (stage .answer) (stage .table) (stage .at) m e on
 
+-- a stage by its answer
+pub stage-refused : (stage : Stage) (m : Got Table) (r : Refusal) → reached stage ≡ m → stage .answer ≡ Answer.Refused r → m ≡ refused r
+stage-refused stage m r e is = sym e ∙ ap (λ (a : Answer). reachedBy a (stage .table) (stage .at)) is
+
+pub stage-accepted : (stage : Stage) (m : Got Table) → reached stage ≡ m → stage .answer ≡ Answer.Accepted → m ≡ got (stage .table) (stage .at)
+stage-accepted stage m e is = sym e ∙ ap (λ (a : Answer). reachedBy a (stage .table) (stage .at)) is
+
 -- every stage ends within the bytes
 within-bytes : {counts t : Table} {s : List ℕ} {i x k at : ℕ} → SoFar counts s i x k t at → at ≤ 8 * length s
 within-bytes {counts} {t} {s} {i} {x} {k} {at} so-far =

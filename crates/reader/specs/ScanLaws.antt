@@ -8,6 +8,7 @@ use native.Mathlib.Omega.{arith}
 use borrow.Author.Tests.{le-ltb, lt-ltb, ltb-true}
 use lib.Dec.{ltb}
 use lib.ListN.{length}
+use Rattle.replies.specs.Plain.{both-true}
 use Rattle.refusals.specs.declared.Refusal.{Refusal}
 use Rattle.refusals.specs.declared.Answer.{Answer}
 use Rattle.bits.specs.Reading.{Got, got, refused, onward, onward-onward, ended}
@@ -21,6 +22,11 @@ use Rattle.script.specs.Labels.{label, labels}
 use Rattle.script.specs.Reader.{packedTable, wholeScript, scriptOf, readScript, noLabel, labelReply, labelSpan, labelOf}
 use Rattle.labels.specs.Counting.{labels-more}
 use Rattle.labels.specs.Among.{spanOf, amongReply, labelsToEnd, labelAfter, labelAmong}
+use Rattle.bits.specs.Bits.{paddingAt}
+use Rattle.bits.specs.Holding.{widthOfAll}
+use Rattle.bits.specs.Packing.{there-ends}
+use Rattle.script.specs.Writer.{tableParts}
+use Rattle.roundtrip.specs.ReadTable.{table-read}
 use Rattle.reader.specs.declared.Scan.{Scan}
 use Rattle.reader.specs.Scans.{blockSpan, scanOf, refusedScan, shown}
 
@@ -94,62 +100,66 @@ among-read : (among : Bool) (one : Got Span) (m : Got ℕ) → amongReply among 
 among-read among one (got c end) e = (c, end, refl)
 among-read among one (refused q) e = let z : _≡_ {A = ℕ} 0 1 = cc in absurd (omega arith)
 
--- both of two tests that were passed
-both-true : (a b : Bool) → (a && b) ≡ true → (a ≡ true) × (b ≡ true)
-both-true true b e = (refl, e)
-both-true false b e = (e, cc)
-
 module _ (s : List ℕ) (t : Table) (at : ℕ) (room : length s ≤ limits .script) (there : packedTable s 0 ≡ got t at) where
+  -- a script that is accepted, with a label
+  abbrev pub wholeScan : Label → Scan
+  wholeScan l = record { answer = Answer.Accepted; table = t; block = record { from = at / 8; size = length s - at / 8 }; label = l }
+
   -- the whole script, from its labels on
   script-rest : scriptOf s ≡ onward (labelsToEnd (labelsBefore t (t .n)) s at) (λ c end. got t end)
   unfolding scriptOf wholeScript labelsToEnd
   script-rest = rw (le-ltb (limits .script) (length s) room, there) (sym (onward-onward (labels (labelsBefore t (t .n)) s at) _ _))
 
   -- the labels' refusal
-  pub scan-no-labels : (k wanted : ℕ) (r : Refusal) → labelAmong (labelsBefore t (t .n)) wanted s at .answer ≡ Answer.Refused r → scanOf s k ≡ refusedScan r
+  pub scan-no-labels : (k count wanted : ℕ) (l : Label) (r : Refusal) → count ≡ labelsBefore t (t .n) → l ≡ labelAmong count wanted s at
+      → l .answer ≡ Answer.Refused r → scanOf s k ≡ refusedScan r
   unfolding labelAmong
-  scan-no-labels k wanted r e =
+  scan-no-labels k count wanted l r all read e =
       scan-refused s k r
-      (script-rest ∙ among-refused (ltb wanted (labelsBefore t (t .n))) (labelAfter wanted s at) (labelsToEnd (labelsBefore t (t .n)) s at) r t e)
+      (script-rest
+      ∙ ap (λ (n : ℕ). onward (labelsToEnd n s at) (λ c end. got t end)) (sym all)
+      ∙ among-refused (ltb wanted count) (labelAfter wanted s at) (labelsToEnd count s at) r t (ap (λ (x : Label). x .answer) (sym read) ∙ e))
 
   -- what is read of a script that is accepted
-  scan-read : (k end : ℕ) → scriptOf s ≡ got t end
-      → scanOf s k
-        ≡ record {
-          answer = Answer.Accepted;
-          table = t;
-          block = record { from = at / 8; size = length s - at / 8 };
-          label = cond (ltb k (t .n) && labelled (entryAt t k)) (labelReply (labelAfter (labelsBefore t k) s at)) (noLabel Refusal.NoEntry);
-        }
+  scan-read : (k end : ℕ) → scriptOf s ≡ got t end → scanOf s k ≡ wholeScan (cond (ltb k (t .n) && labelled (entryAt t k)) (labelReply (labelAfter (labelsBefore t k) s at)) (noLabel Refusal.NoEntry))
   unfolding scanOf readScript blockSpan labelOf labelSpan labelAfter
   scan-read k end whole = rw (whole, there)
 
   -- the label that was wanted is the one that was found among all
-  label-found : (k c end : ℕ) (named : Bool) → named ≡ (ltb k (t .n) && labelled (entryAt t k)) → labelsToEnd (labelsBefore t (t .n)) s at ≡ got c end
-      → cond named (labelReply (labelAfter (labelsBefore t k) s at)) (noLabel Refusal.NoEntry)
-        ≡ shown named (labelAmong (labelsBefore t (t .n)) (labelsBefore t k) s at .span)
+  label-found : (k count wanted c end : ℕ) (named : Bool) → count ≡ labelsBefore t (t .n) → (k < t .n → wanted ≡ labelsBefore t k)
+      → named ≡ (ltb k (t .n) && labelled (entryAt t k)) → labelsToEnd count s at ≡ got c end
+      → cond named (labelReply (labelAfter (labelsBefore t k) s at)) (noLabel Refusal.NoEntry) ≡ shown named (labelAmong count wanted s at .span)
   unfolding labelAmong labelsToEnd
-  label-found k c end false unnamed e = refl
-  label-found k c end true named e =
+  label-found k count wanted c end false all one unnamed e = refl
+  label-found k count wanted c end true all one named e =
       let both = both-true (ltb k (t .n)) (labelled (entryAt t k)) (sym named) in
-      let counts = label-counts t k (t .n) (ltb-true k (t .n) (both .0)) (both .1) in
-      let all = labels-read s (labels (labelsBefore t (t .n)) s at) _ c end e in
-      label-there s (all .0) (all .1) (labelsBefore t k) (labelsBefore t (t .n)) at counts (all .2)
-      ∙ rw (e, lt-ltb (labelsBefore t k) (labelsBefore t (t .n)) counts) refl
+      let early = ltb-true k (t .n) (both .0) in
+      let counts : wanted < count = omega (arith, label-counts t k (t .n) early (both .1), all, one early) in
+      let read = labels-read s (labels count s at) _ c end e in
+      ap (λ (n : ℕ). labelReply (labelAfter n s at)) (sym (one early))
+      ∙ label-there s (read .0) (read .1) wanted count at counts (read .2)
+      ∙ rw (e, lt-ltb wanted count counts) refl
 
   -- all of it
-  pub scan-whole : (k : ℕ) → labelAmong (labelsBefore t (t .n)) (labelsBefore t k) s at .answer ≡ Answer.Accepted
-      → scanOf s k
-        ≡ record {
-          answer = Answer.Accepted;
-          table = t;
-          block = record { from = at / 8; size = length s - at / 8 };
-          label = shown (ltb k (t .n) && labelled (entryAt t k)) (labelAmong (labelsBefore t (t .n)) (labelsBefore t k) s at .span);
-        }
+  pub scan-whole : (k count wanted : ℕ) (l : Label) → count ≡ labelsBefore t (t .n) → (k < t .n → wanted ≡ labelsBefore t k)
+      → l ≡ labelAmong count wanted s at → l .answer ≡ Answer.Accepted
+      → scanOf s k ≡ wholeScan (shown (ltb k (t .n) && labelled (entryAt t k)) (l .span))
   unfolding labelAmong
-  scan-whole k e =
-      let all = among-read _ _ (labelsToEnd (labelsBefore t (t .n)) s at) e in
-      scan-read k (all .1) (script-rest ∙ ap (λ (m : Got ℕ). onward m (λ c end. got t end)) (all .2))
-      ∙ ap
-      (λ (l : Label). record { answer = Answer.Accepted; table = t; block = record { from = at / 8; size = length s - at / 8 }; label = l })
-      (label-found k (all .0) (all .1) (ltb k (t .n) && labelled (entryAt t k)) refl (all .2))
+  scan-whole k count wanted l all one read e =
+      let ends = among-read _ _ (labelsToEnd count s at) (ap (λ (x : Label). x .answer) (sym read) ∙ e) in
+      scan-read k (ends .1)
+      (script-rest ∙ ap (λ (n : ℕ). onward (labelsToEnd n s at) (λ c end. got t end)) (sym all) ∙ ap (λ (m : Got ℕ). onward m (λ c end. got t end)) (ends .2))
+      ∙ ap wholeScan
+      (label-found k count wanted (ends .0) (ends .1) (ltb k (t .n) && labelled (entryAt t k)) all one refl (ends .2)
+      ∙ ap (λ (x : Label). shown (ltb k (t .n) && labelled (entryAt t k)) (x .span)) (sym read))
+
+-- the labels begin at a whole byte, within the bytes
+pub block-begins : (s : List ℕ) (t : Table) (at : ℕ) → packedTable s 0 ≡ got t at → (8 * (at / 8) ≡ at) × (at ≤ 8 * length s)
+block-begins s t at there =
+    let read = table-read s .told t at there in
+    let w = widthOfAll (tableParts t) in
+    (omega (arith, read .ends), omega (arith, read .ends, there-ends s w (paddingAt w) 0 (read .padded)))
+
+-- a table that was read has no more entries than there are slots
+pub table-within : (s : List ℕ) (t : Table) (at : ℕ) → packedTable s 0 ≡ got t at → t .n ≤ limits .entries
+table-within s t at there = table-read s .told t at there .within .entries

@@ -1,2 +1,3 @@
 -- "two replies allowed by the statement are equal"
 pub mod Replies
+pub mod Plain

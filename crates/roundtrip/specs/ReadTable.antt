@@ -7,6 +7,7 @@ use native.Mathlib.Omega.{arith}
 use lib.Dec.{leb, eqb}
 use lib.ListN.{getD, replicate, getD-replicate}
 use borrow.Author.Tests.{leb-true, eqb-true}
+use Rattle.replies.specs.Plain.{both-true}
 use Rattle.values.specs.declared.Number.{Number}
 use Rattle.refusals.specs.declared.Refusal.{Refusal}
 use Rattle.refusals.specs.declared.Answer.{Answer}
@@ -26,11 +27,6 @@ use Rattle.roundtrip.specs.ReadStanding.{Stands, stands-none, stands-mor
 use Rattle.roundtrip.specs.ReadEntries.{entry-read}
 use Rattle.roundtrip.specs.ReadSoFar.{SoFar, import-step, variable-step, entry-step}
 use Rattle.roundtrip.specs.ReadFaults.{Within, unused-slots, within-limits, table-sound}
-
--- both of two tests that were passed
-both-true : (a b : Bool) → (a && b) ≡ true → (a ≡ true) × (b ≡ true)
-both-true true b e = (refl, e)
-both-true false b e = (e, cc)
 
 -- a list of one thing has it everywhere
 alike : {A : Type 0} (n i : ℕ) (a : A) → getD (replicate n a) i a ≡ a
@@ -111,6 +107,7 @@ module _ (c : Table) (within : Within c) (s : List ℕ) where
 
 -- a table that was read, with the zero bits after it
 pub record TableRead (s : List ℕ) (t : Table) (next : ℕ) : Type 0 where
+  pub within : Within t
   pub shaped : Shaped t
   pub sound : tableFault t ≡ Answer.Accepted
   pub held : Holds s 0 (tableParts t)
@@ -138,6 +135,7 @@ unfolding tableParts
 whole-table c t s at within h padded =
     let same : at ≡ widthOfAll (tableParts t) = omega (arith, h .stand .ends) in
     record {
+      within = within;
       shaped = h .shaped;
       sound = table-sound t (within-limits t within (unused-slots t (h .no-entry) (h .no-import) (h .no-number))) (h .numbers) (h .operands);
       held = h .stand .held;

@@ -46,14 +46,14 @@ unfolding writerFault
 length-before-room t block room good fine long = rw (good, fine, long)
 
 -- "Script: 01 04 04 00 00 01 80 50 1B 82 04 4C 45 41 50"
-abbrev recordedScript : List ℕ
+abbrev pub recordedScript : List ℕ
 recordedScript = 0x01 ∷ 0x04 ∷ 0x04 ∷ 0x00 ∷ 0x00 ∷ 0x01 ∷ 0x80 ∷ 0x50 ∷ 0x1B ∷ 0x82 ∷ 0x04 ∷ 0x4C ∷ 0x45 ∷ 0x41 ∷ 0x50 ∷ []
 
 -- "It imports condition 0, negates it, takes the start, raises alarm LEAP."
-abbrev recordedTable : Table
+abbrev pub recordedTable : Table
 recordedTable = withEntry (withEntry (withEntry (withEntry (counted 4 1 0) 0 (ImportedCondition 0)) 1 (Not 0)) 2 (Start 1)) 3 (Alarm 2)
 
-abbrev recordedBlock : List ℕ
+abbrev pub recordedBlock : List ℕ
 recordedBlock = 4 ∷ 0x4C ∷ 0x45 ∷ 0x41 ∷ 0x50 ∷ []
 
 -- the recorded script is read as that table and those labels

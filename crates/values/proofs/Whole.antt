@@ -12,6 +12,7 @@ use mir.Syntax.{w64}
 use mir.Val.{SFits, toZ, ofZ}
 use mir.ValLaws.{toZ-ofZ}
 use borrow.Author.Tests.{ltb-true, ltb-false, lt-ltb, le-ltb, eq-eqb, ne-eqb}
+use Rattle.replies.specs.Plain.{both-true}
 use Rattle.values.specs.Numbers.{inRange, ranged, eqZ}
 use Rattle.values.specs.declared.Number.{Number}
 use Rattle.values.specs.declared.Number.the-variants.{Undefined, Whole}
@@ -94,17 +95,13 @@ module _ {z : ℤ} (f : SFits w64 z) {t : Bool} (e : t ≡ inRange (read z)) whe
 
 -- ---- sums
 
-both : (p q : Bool) → (p && q) ≡ true → (p ≡ true) × (q ≡ true)
-both true q e = (refl, e)
-both false q e = absurd (false≢true e)
-
 either : (p q : Bool) → (p && q) ≡ false → (p ≡ false) ⊎ (q ≡ false)
 either true q e = inr e
 either false q e = inl refl
 
 near : (a b : ℕ) → (ltb a (2 ^ 47) && ltb b (2 ^ 47)) ≡ true → a + b < 2 ^ 48 - 1
 near a b e =
-    let p : (ltb a (2 ^ 47) ≡ true) × (ltb b (2 ^ 47) ≡ true) = both _ _ e in
+    let p : (ltb a (2 ^ 47) ≡ true) × (ltb b (2 ^ 47) ≡ true) = both-true _ _ e in
     omega (arith, ltb-true a (2 ^ 47) (p .0), ltb-true b (2 ^ 47) (p .1))
 
 far : (a b s : ℕ) → (ltb a (2 ^ 47) && ltb b (2 ^ 47)) ≡ false → a ≤ s → b ≤ s → ltb s (2 ^ 47) ≡ false

@@ -1,17 +1,14 @@
+-- The label of one pass.
+use mathlib.Core.Path.{ap}
 use borrow.Author.Needs.{needs}
+use Rattle.reader.specs.declared.Scan.{Scan}
+use Rattle.reader.specs.Scans.{scanOf}
 use Rattle.reader.proofs.scanning.find_label.Statement.{statement}
 use Rattle.reader.proofs.scanning.find_label.Tie as tie
-use Rattle.reader.proofs.scanning.find_label.Reads as reads
-use Rattle.reader.proofs.scanning.find_label.Lts as lts
-use Rattle.reader.proofs.scanning.scan_script.Reads as scan-script-reads
 
--- src/scanning.rt:128:9
-scan-script-requires : tie.Need-scan-script-requires
-scan-script-requires c κs = search needs
-
--- src/scanning.rt:125:1
 returns : tie.Need-returns
-returns c = search needs
+unfolding scanOf
+returns c = ap (λ (x : Scan). x .label) (c .before .scan-script .ensures)
 
 pub find-label-spec : {M : Type 1} → statement M
-find-label-spec = tie.close (tie.spec scan-script-requires returns)
+find-label-spec = tie.close (tie.spec (λ c κs. search needs) returns)

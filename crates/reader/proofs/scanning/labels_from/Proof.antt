@@ -1,70 +1,80 @@
+-- All labels decide, and the wanted one is found among them.
+use mathlib.Core.Bool.{Bool}
+use mathlib.Core.List.{List}
+use mathlib.Core.Path.{_≡_, sym, _∙_, ap}
+use Prim.Native.Nat.{ℕ, _-_, _*_, _/_, _<_, _≤_}
+use native.Mathlib.Nat.{min-eq-left}
+use native.Mathlib.Omega.{arith}
 use borrow.Author.Needs.{needs}
+use lib.ListN.{length}
+use Rattle.refusals.specs.declared.Answer.{Answer}
+use Rattle.bits.specs.Reading.{got}
+use Rattle.table.specs.declared.Table.{Table}
+use Rattle.table.specs.Tables.{labelsBefore}
+use Rattle.script.specs.Reader.{packedTable}
+use Rattle.reader.specs.Scans.{shown}
+use Rattle.reader.specs.ScanLaws.{wholeScan, scan-no-labels, scan-whole, block-begins, table-within}
 use Rattle.reader.proofs.scanning.labels_from.Statement.{statement}
 use Rattle.reader.proofs.scanning.labels_from.Tie as tie
-use Rattle.reader.proofs.scanning.labels_from.Reads as reads
-use Rattle.reader.proofs.scanning.labels_from.Lts as lts
-use Rattle.labels.proofs.before.Reads as before-reads
-use Rattle.labels.proofs.read.Reads as read-reads
-use Rattle.reader.proofs.scanning.has_label.Reads as has-label-reads
-use Rattle.reader.proofs.scanning.refused_scan.Reads as refused-scan-reads
-use Rattle.reader.proofs.scanning.shown_label.Reads as shown-label-reads
 
--- src/scanning.rt:71:9
-before-requires : tie.Need-before-requires
-before-requires c κs = search needs
+-- the bytes, the table and where the labels begin
+abbrev bytes : tie.After-read → List ℕ
+bytes p = p .before .before .before .before .args .s .now
 
--- src/scanning.rt:72:9
-before-requires-2 : tie.Need-before-requires-2
-before-requires-2 c κs = search needs
+abbrev table : tie.After-read → Table
+table p = p .before .before .before .before .args .t
 
--- src/scanning.rt:73:9
-read-requires : tie.Need-read-requires
-read-requires c κs = search needs
+abbrev begins : tie.After-read → ℕ
+begins p = p .before .before .before .before .args .from
 
--- src/scanning.rt:76:25
-enum-known-answer : tie.Need-enum-known-answer
-enum-known-answer c = search needs
+few : (p : tie.After-read) → table p .n ≤ 128
+few p = table-within (bytes p) (table p) (8 * begins p) (p .before .before .before .before .pre .1)
 
--- src/scanning.rt:76:31
-refused-scan-requires : tie.Need-refused-scan-requires
-refused-scan-requires c κs = search needs
+-- all labels are counted, and those before the wanted one
+all : (p : tie.After-read) → p .before .before .before2 .result ≡ labelsBefore (table p) (table p .n)
+all p = p .before .before .before2 .ensures ∙ ap (labelsBefore (table p)) (min-eq-left (few p))
 
--- src/scanning.rt:78:17
-enum-told : tie.Need-enum-told
-enum-told c = search needs
+one : (p : tie.After-read) → let k = p .before .before .before .before .args .k in k < table p .n → p .before .before3 .result ≡ labelsBefore (table p) k
+one p h = p .before .before3 .ensures ∙ ap (labelsBefore (table p)) (min-eq-left (omega (arith, few p)))
 
--- src/scanning.rt:79:37
 has-label-requires : tie.Need-has-label-requires
-has-label-requires c κs = search needs
+has-label-requires c κs = few (c .before .before .before)
 
--- src/scanning.rt:79:17
-shown-label-requires : tie.Need-shown-label-requires
-shown-label-requires c κs = search needs
-
--- src/scanning.rt:85:27
 sub-t16 : tie.Need-sub-t16
-sub-t16 c = search needs
+sub-t16 c =
+    let p : tie.After-read = c .before .before .before .before .before in
+    omega (arith, block-begins (bytes p) (table p) (8 * begins p) (p .before .before .before .before .pre .1) .1)
 
--- src/scanning.rt:67:1
 returns : tie.Need-returns
-returns c = search needs
+returns c =
+    let p : tie.After-read = c .before .before .before .before in
+    let start = p .before .before .before .before in
+    c .refused-scan .ensures
+    ∙ sym (scan-no-labels (bytes p) (table p) (8 * begins p) (start .pre .0) (start .pre .1) (start .args .k) (p .before .before .before2 .result) (p .before .before3 .result)
+    (p .read .result) _ (all p) (p .read .ensures) (c .before .before .answer .given .1))
 
--- src/scanning.rt:67:1
 returns-2 : tie.Need-returns-2
-returns-2 c = search needs
+returns-2 c =
+    let p : tie.After-read = c .before .before .before .before .before in
+    let start = p .before .before .before .before in
+    let from = begins p in
+    ap (λ (n : ℕ). record { answer = Answer.Accepted; table = table p; block = record { from = n; size = length (bytes p) - n }; label = c .shown-label .result }) {x = from} {y = 8 * from / 8} (omega arith)
+    ∙ ap (wholeScan (bytes p) (table p) (8 * from) (start .pre .0) (start .pre .1)) (c .shown-label .ensures ∙ ap (λ (named : Bool). shown named (p .read .result .span)) (c .before .has-label .ensures))
+    ∙ sym (scan-whole (bytes p) (table p) (8 * from) (start .pre .0) (start .pre .1) (start .args .k) (p .before .before .before2 .result) (p .before .before3 .result)
+    (p .read .result) (all p) (one p) (p .read .ensures) (c .before .before .before .enum-told .given .1))
 
 pub labels-from-spec : {M : Type 1} → statement M
 labels-from-spec =
     tie.close
     (tie.spec
-    before-requires
-    before-requires-2
-    read-requires
-    enum-known-answer
-    refused-scan-requires
-    enum-told
+    (λ c κs. search needs)
+    (λ c κs. search needs)
+    (λ c κs. search needs)
+    (λ c. search needs)
+    (λ c κs. search needs)
+    (λ c. search needs)
     has-label-requires
-    shown-label-requires
+    (λ c κs. search needs)
     sub-t16
     returns
     returns-2)

@@ -1,17 +1,15 @@
+-- The table of one pass.
+use mathlib.Core.Path.{ap}
 use borrow.Author.Needs.{needs}
+use Rattle.script.specs.declared.Script.{Script}
+use Rattle.reader.specs.declared.Scan.{Scan}
+use Rattle.reader.specs.Scans.{scanOf}
 use Rattle.reader.proofs.scanning.read.Statement.{statement}
 use Rattle.reader.proofs.scanning.read.Tie as tie
-use Rattle.reader.proofs.scanning.read.Reads as reads
-use Rattle.reader.proofs.scanning.read.Lts as lts
-use Rattle.reader.proofs.scanning.scan_script.Reads as scan-script-reads
 
--- src/scanning.rt:115:9
-scan-script-requires : tie.Need-scan-script-requires
-scan-script-requires c κs = search needs
-
--- src/scanning.rt:112:1
 returns : tie.Need-returns
-returns c = search needs
+unfolding scanOf
+returns c = ap (λ (x : Scan). record { answer = x .answer; table = x .table }) (c .before .scan-script .ensures)
 
 pub read-spec : {M : Type 1} → statement M
-read-spec = tie.close (tie.spec scan-script-requires returns)
+read-spec = tie.close (tie.spec (λ c κs. search needs) returns)

@@ -1,58 +1,41 @@
+-- The length first, then the table, then the labels.
+use mathlib.Core.Path.{_≡_, sym, _∙_, ap}
+use native.Mathlib.Omega.{arith}
 use borrow.Author.Needs.{needs}
+use Rattle.bits.specs.Reading.{got}
+use Rattle.script.specs.Reader.{packedTable}
+use Rattle.reader.specs.Packs.{stage-refused, stage-accepted}
+use Rattle.reader.specs.ScanLaws.{scan-long, scan-no-table, block-begins}
 use Rattle.reader.proofs.scanning.scan_script.Statement.{statement}
 use Rattle.reader.proofs.scanning.scan_script.Tie as tie
-use Rattle.reader.proofs.scanning.scan_script.Reads as reads
-use Rattle.reader.proofs.scanning.scan_script.Lts as lts
-use Rattle.reader.proofs.packed.packed.Reads as packed-reads
-use Rattle.reader.proofs.scanning.labels_from.Reads as labels-from-reads
-use Rattle.reader.proofs.scanning.refused_scan.Reads as refused-scan-reads
 
--- src/scanning.rt:98:9
-refused-scan-requires : tie.Need-refused-scan-requires
-refused-scan-requires c κs = search needs
-
--- src/scanning.rt:98:9
 returns : tie.Need-returns
-returns c = search needs
+returns c = let a = c .before .before .before .args in c .refused-scan .ensures ∙ sym (scan-long (a .s .now) (a .k) (omega arith))
 
--- src/scanning.rt:100:9
-packed-requires : tie.Need-packed-requires
-packed-requires c κs = search needs
-
--- src/scanning.rt:103:25
-enum-known-answer : tie.Need-enum-known-answer
-enum-known-answer c = search needs
-
--- src/scanning.rt:103:31
-refused-scan-requires-2 : tie.Need-refused-scan-requires-2
-refused-scan-requires-2 c κs = search needs
-
--- src/scanning.rt:105:17
-enum-told : tie.Need-enum-told
-enum-told c = search needs
-
--- src/scanning.rt:106:13
 labels-from-requires : tie.Need-labels-from-requires
-labels-from-requires c κs = search needs
+labels-from-requires c κs =
+    let p : tie.After-packed = c .before .before .before .before in
+    let a = p .before .before .before .args in
+    let there = stage-accepted (p .packed .result) _ (p .packed .ensures) (c .before .before .enum-told .given .1) in
+    (omega arith, there ∙ ap (got (p .packed .result .table)) (sym (block-begins (a .s .now) _ _ there .0)))
 
--- src/scanning.rt:94:1
 returns-2 : tie.Need-returns-2
-returns-2 c = search needs
-
--- src/scanning.rt:94:1
-returns-3 : tie.Need-returns-3
-returns-3 c = search needs
+returns-2 c =
+    let p : tie.After-packed = c .before .before .before .before in
+    let a = p .before .before .before .args in
+    c .refused-scan2 .ensures
+    ∙ sym (scan-no-table (a .s .now) (a .k) _ (omega arith) (stage-refused (p .packed .result) _ _ (p .packed .ensures) (c .before .before .answer .given .1)))
 
 pub scan-script-spec : {M : Type 1} → statement M
 scan-script-spec =
     tie.close
     (tie.spec
-    refused-scan-requires
+    (λ c κs. search needs)
     returns
-    packed-requires
-    enum-known-answer
-    refused-scan-requires-2
-    enum-told
+    (λ c κs. search needs)
+    (λ c. search needs)
+    (λ c κs. search needs)
+    (λ c. search needs)
     labels-from-requires
     returns-2
-    returns-3)
+    (λ c. search needs))

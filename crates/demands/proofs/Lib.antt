@@ -1,0 +1,2 @@
+-- That the document's reader and writer are what our functions' contracts say.
+pub mod Ours

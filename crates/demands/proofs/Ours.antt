@@ -1,0 +1,23 @@
+-- Every reply that our functions' own contracts allow is the build's, so the demands that are proved of the build hold of the code.
+use denote.Ref.{now}
+use Rattle.replies.specs.Replies.{Answers}
+use Rattle.demands.specs.Scripts.{ours}
+use Rattle.reader.proofs.read.Reads as read
+use Rattle.parts.proofs.block.Reads as block
+use Rattle.writer.proofs.write.Reads as write
+
+-- what is read of any bytes
+pub reads : Answers read.Post (λ κs r s. r) (λ κs a. ours .read (now (a .0)))
+reads = record { is = λ κs a r s post. post }
+
+-- their block of labels
+pub blocks : Answers block.Post (λ κs r s. now r) (λ κs a. ours .block (now (a .0)))
+blocks = record { is = λ κs a r s post. post .0 }
+
+-- what a write answers
+pub writes : Answers write.Post (λ κs r s. r) (λ κs a. ours .write (a .0) (now (a .1 .0)) (now (a .1 .1 .0)))
+writes = record { is = λ κs a r s post. post .0 }
+
+-- and what the destination then holds
+pub written : Answers write.Post (λ κs r s. now (s .1 .1 .0)) (λ κs a. ours .written (a .0) (now (a .1 .0)) (now (a .1 .1 .0)))
+written = record { is = λ κs a r s post. post .1 }

@@ -1,0 +1,3 @@
+-- The demands as statements over any build, proved of ours, and the lazy builds that they stop.
+pub mod Scripts
+pub mod Lazy

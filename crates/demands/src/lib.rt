@@ -1,0 +1,1 @@
+// What is promised, stated over any build. It has no code: its statements stand in specs/.

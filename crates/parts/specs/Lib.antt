@@ -1,0 +1,3 @@
+-- What a part of a script comes with.
+pub mod Shown
+pub mod Within
