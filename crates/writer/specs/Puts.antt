@@ -38,6 +38,11 @@ puts-more {s = s} {at = at} {ps = ps} {qs = qs} first second =
       ends = omega (arith, first .ends, second .ends, width-append ps qs);
     }
 
+-- one field, and then some more
+pub puts-next : {s s' s'' : List ℕ} {at mid next : ℕ} {p : Part} {ps : List Part} → Puts s at (p ∷ []) s' mid → Puts s' mid ps s'' next
+    → Puts s at (p ∷ ps) s'' next
+puts-next first second = puts-more first second
+
 -- one list more
 pub puts-joined : {s s' s'' : List ℕ} {at mid next : ℕ} (i : ℕ) (f : ℕ → List Part) → Puts s at (joined i f) s' mid → Puts s' mid (f i) s'' next
     → Puts s at (joined (i + 1) f) s'' next

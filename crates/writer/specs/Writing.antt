@@ -20,6 +20,7 @@ use Rattle.table.specs.Limits.{limits}
 use Rattle.table.specs.Tables.{labelsBefore}
 use Rattle.table.specs.Faults.{tableFault}
 use Rattle.script.specs.declared.Span.{Span}
+use Rattle.script.specs.Orders.{table-first, block-next}
 use Rattle.script.specs.Writer.{tableParts, scriptBytes, answered, blockFault, writerFault, writeScript, writeBytes}
 use Rattle.labels.specs.Among.{amongReply, labelsToEnd, labelAfter, labelAmong}
 use Rattle.refusals.specs.Accepting.{accepted-first, accepted-second, unless-accepted}
@@ -80,6 +81,26 @@ writer-fault t block room =
 pub room-last : (t : Table) (block : List ℕ) (room : ℕ) → tableFault t ≡ Answer.Accepted → blockFault t block ≡ Answer.Accepted
     → writerFault t block room ≡ roomFault (packedSize t + length block) room
 room-last t block room good fine = writer-fault t block room ∙ rw (good, fine) refl
+
+-- an answer that is the table's, and accepts: the table is within its limits
+pub within-told : {a : Answer} (t : Table) → a ≡ tableFault t → a ≡ Answer.Accepted → Within t
+within-told t is accepted = sound-table t (sym is ∙ accepted) .within
+
+-- one that refuses is the writer's
+pub table-told : {a : Answer} {r : Refusal} (t : Table) (block : List ℕ) (room : ℕ) → a ≡ tableFault t → a ≡ Answer.Refused r
+    → Answer.Refused r ≡ writerFault t block room
+table-told {r = r} t block room is bad = sym (table-first t block room r (sym is ∙ bad))
+
+-- and so is one of the block that refuses, where the table is accepted
+pub block-told : {a b : Answer} {r : Refusal} (t : Table) (block : List ℕ) (room : ℕ) → a ≡ tableFault t → a ≡ Answer.Accepted → b ≡ blockFault t block
+    → b ≡ Answer.Refused r → Answer.Refused r ≡ writerFault t block room
+block-told {r = r} t block room is accepted is' bad = sym (block-next t block room r (sym is ∙ accepted) (sym is' ∙ bad))
+
+-- where both are accepted, it is the answer to the size
+pub size-told : {a b c : Answer} {packed : ℕ} (t : Table) (block : List ℕ) (room : ℕ) → a ≡ tableFault t → a ≡ Answer.Accepted → b ≡ blockFault t block
+    → b ≡ Answer.Accepted → packed ≡ packedSize t → c ≡ roomFault (packed + length block) room → c ≡ writerFault t block room
+size-told t block room is accepted is' accepted' packed last =
+    last ∙ ap (λ (n : ℕ). roomFault (n + length block) room) packed ∙ sym (room-last t block room (sym is ∙ accepted) (sym is' ∙ accepted'))
 
 -- what is known of a script that is written
 pub record Writable (t : Table) (block : List ℕ) (room : ℕ) : Type 0 where

@@ -11,11 +11,15 @@ use Rattle.writer.proofs.fill.Tie as tie
 
 copy-requires : tie.Need-copy-requires
 copy-requires c κs =
-    let put = c .before .before .before .pack .ensures in
-    omega (arith, c .before .before .before .before .before .before .before .pre .fits, packed-ends (c .before .before .before .before .before .before .before .args .t) (c .before .before .before .pack .result) put, puts-length put)
+    let start = c .before .before .before .before .before .before .before in
+    let pack = c .before .before .before .pack in
+    omega (arith, start .pre .fits, packed-ends (start .args .t) (pack .result) (pack .ensures), puts-length (pack .ensures))
 
 add-result : tie.Need-add-result
-add-result c = omega (arith, c .before .before .before .before .before .before .before .before .before .before .pre .short, packed-ends (c .before .before .before .before .before .before .before .before .before .before .args .t) (c .before .before .before .before .before .before .pack .result) (c .before .before .before .before .before .before .pack .ensures))
+add-result c =
+    let start = c .before .before .before .before .before .before .before .before .before .before in
+    let pack = c .before .before .before .before .before .before .pack in
+    omega (arith, start .pre .short, packed-ends (start .args .t) (pack .result) (pack .ensures))
 
 returns : tie.Need-returns
 returns c =

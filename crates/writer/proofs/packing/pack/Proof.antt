@@ -8,48 +8,47 @@ use Rattle.writer.proofs.packing.pack.Statement.{statement}
 use Rattle.writer.proofs.packing.pack.Tie as tie
 
 put-imports-requires : tie.Need-put-imports-requires
-put-imports-requires c κs = let t = c .before .before .before .before .before .before .args .t in omega (arith, c .before .before .before .put-header .ensures .ends, header-width t)
+put-imports-requires c κs =
+    let header = c .before .before .before .put-header .ensures in
+    omega (arith, header .ends, header-width (c .before .before .before .before .before .before .args .t))
 
 put-variables-requires : tie.Need-put-variables-requires
 put-variables-requires c κs =
     let t = c .before .before .before .before .before .before .before .before .before .before .args .t in
-    omega (arith, c .before .before .before .before .before .before .before .put-header .ensures .ends, header-width t, c .before .before .before .put-imports .ensures .ends, imports-width t (t .q))
+    let header = c .before .before .before .before .before .before .before .put-header .ensures in
+    let imports = c .before .before .before .put-imports .ensures in
+    omega (arith, header .ends, header-width t, imports .ends, imports-width t (t .q))
 
 put-entries-requires : tie.Need-put-entries-requires
 put-entries-requires c κs =
     let t = c .before .before .before .before .before .before .before .before .before .before .before .before .before .before .args .t in
-    omega (
-      arith,
-      c .before .before .before .before .before .before .before .before .before .before .before .put-header .ensures .ends,
-      header-width t,
-      c .before .before .before .before .before .before .before .put-imports .ensures .ends,
-      imports-width t (t .q),
-      c .before .before .before .put-variables .ensures .ends,
-      variables-width t (t .v),
-    )
+    let header = c .before .before .before .before .before .before .before .before .before .before .before .put-header .ensures in
+    let imports = c .before .before .before .before .before .before .before .put-imports .ensures in
+    let variables = c .before .before .before .put-variables .ensures in
+    omega (arith, header .ends, header-width t, imports .ends, imports-width t (t .q), variables .ends, variables-width t (t .v))
 
 put-field-requires : tie.Need-put-field-requires
 put-field-requires c κs =
     let t = c .before .before .before .before .before .before .before .before .before .before .before .before .before .before .before .before .before .before .args .t in
+    let header = c .before .before .before .before .before .before .before .before .before .before .before .before .before .before .before .put-header .ensures in
+    let imports = c .before .before .before .before .before .before .before .before .before .before .before .put-imports .ensures in
+    let variables = c .before .before .before .before .before .before .before .put-variables .ensures in
+    let entries = c .before .before .before .put-entries .ensures in
     omega (
       arith,
-      c .before .before .before .before .before .before .before .before .before .before .before .before .before .before .before .put-header .ensures .ends,
+      header .ends,
       header-width t,
-      c .before .before .before .before .before .before .before .before .before .before .before .put-imports .ensures .ends,
+      imports .ends,
       imports-width t (t .q),
-      c .before .before .before .before .before .before .before .put-variables .ensures .ends,
+      variables .ends,
       variables-width t (t .v),
-      c .before .before .before .put-entries .ensures .ends,
+      entries .ends,
       entries-wide t (t .n),
     )
 
 returns : tie.Need-returns
 unfolding tableParts
-returns c =
-    puts-padded
-    (puts-more (c .before .before .before .before .before .before .before .before .before .before .before .before .before .before .before .before .before .before .put-header .ensures)
-    (puts-more (c .before .before .before .before .before .before .before .before .before .before .before .before .before .before .put-imports .ensures) (puts-more (c .before .before .before .before .before .before .before .before .before .before .put-variables .ensures) (c .before .before .before .before .before .before .put-entries .ensures))))
-    (c .before .before .put-field .ensures)
+returns c = search (puts-padded, puts-more)
 
 pub pack-spec : {M : Type 1} → statement M
 pack-spec =

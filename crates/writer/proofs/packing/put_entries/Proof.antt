@@ -21,13 +21,13 @@ loop-holds : tie.Need-loop-holds Inv-loop μ-loop
 loop-holds c = let t = c .before .args .t3 in (omega arith, puts-start (λ k. entryParts (entryAt t k)))
 
 put-entry-requires : tie.Need-put-entry-requires Inv-loop μ-loop
-put-entry-requires c κs = omega (arith, c .before .before .before .loop .inv .1 .ends, entries-wide (c .before .before .before .before .before .args .t3) (c .before .before .before .loop .k))
+put-entry-requires c κs =
+    let loop = c .before .before .before .loop in
+    omega (arith, loop .inv .1 .ends, entries-wide (c .before .before .before .before .before .args .t3) (loop .k))
 
 loop-again : tie.Need-loop-again Inv-loop μ-loop
 unfolding entryAt
-loop-again c =
-    let t = c .before .before .before .before .before .before .before .before .args .t3 in
-    (omega arith, puts-joined (c .before .before .before .before .before .before .loop .k) (λ k. entryParts (entryAt t k)) (c .before .before .before .before .before .before .loop .inv .1) (c .before .before .put-entry .ensures))
+loop-again c = (omega arith, search puts-joined)
 
 same-length : tie.Need-same-length Inv-loop μ-loop
 same-length c = puts-length (c .before .loop .inv .1)

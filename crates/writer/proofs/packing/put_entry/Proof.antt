@@ -2,7 +2,7 @@
 use native.Mathlib.Omega.{arith}
 use borrow.Author.Needs.{needs}
 use Rattle.writer.specs.Parts.{entry-parts}
-use Rattle.writer.specs.Puts.{puts-more, field-ends, operand-ends}
+use Rattle.writer.specs.Puts.{puts-next, puts-more, field-ends, operand-ends}
 use Rattle.writer.proofs.packing.put_entry.Statement.{statement}
 use Rattle.writer.proofs.packing.put_entry.Tie as tie
 
@@ -29,10 +29,8 @@ put-operand-requires-3 c κs =
 
 returns : tie.Need-returns
 returns c =
-    rw (entry-parts (c .before .before .before .before .before .before .before .before .before .before .before .before .before .before .before .before .before .before .args .e), ← c .before .before .before .before .before .before .before .before .before .before .before .before .before .before .before .before .apart-of .ensures)
-    (puts-more (c .before .before .before .before .before .before .before .before .before .before .before .before .before .before .put-field .ensures)
-    (puts-more (c .before .before .before .before .before .before .before .before .before .before .put-operand .ensures)
-    (puts-more (c .before .before .before .before .before .before .put-operand2 .ensures) (c .before .before .put-operand3 .ensures))))
+    let called = c .before .before .before .before .before .before .before .before .before .before .before .before .before .before .before .before in
+    rw (entry-parts (called .before .before .args .e), ← called .apart-of .ensures) (search (puts-next, puts-more))
 
 pub put-entry-spec : {M : Type 1} → statement M
 put-entry-spec =

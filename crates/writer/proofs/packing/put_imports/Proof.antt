@@ -28,14 +28,17 @@ loop-holds : tie.Need-loop-holds Inv-loop μ-loop
 loop-holds c = let t = c .before .args .t3 in (omega arith, puts-start (importParts t))
 
 put-field-requires : tie.Need-put-field-requires Inv-loop μ-loop
-put-field-requires c κs = omega (arith, c .before .before .before .loop .inv .1 .ends, imports-width (c .before .before .before .before .before .args .t3) (c .before .before .before .loop .i))
+put-field-requires c κs =
+    let loop = c .before .before .before .loop in
+    omega (arith, loop .inv .1 .ends, imports-width (c .before .before .before .before .before .args .t3) (loop .i))
 
 loop-again : tie.Need-loop-again Inv-loop μ-loop
 unfolding importParts isEvent
 loop-again c =
     let t = c .before .before .before .before .before .before .before .before .args .t3 in
-    let i = c .before .before .before .before .before .before .loop .i in
-    (omega arith, puts-joined i (importParts t) (c .before .before .before .before .before .before .loop .inv .1) (rw (← bit-of (isEvent t i)) (c .before .before .put-field .ensures)))
+    let loop = c .before .before .before .before .before .before .loop in
+    let put = c .before .before .put-field .ensures in
+    (omega arith, puts-joined (loop .i) (importParts t) (loop .inv .1) (rw (← bit-of (isEvent t (loop .i))) put))
 
 same-length : tie.Need-same-length Inv-loop μ-loop
 same-length c = puts-length (c .before .loop .inv .1)

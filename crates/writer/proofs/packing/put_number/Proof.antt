@@ -5,7 +5,7 @@ use mir.Syntax.{w64}
 use mir.ValLaws.{toZ-ofZ}
 use borrow.Author.Needs.{needs}
 use Rattle.bits.specs.Twos.{unsigned}
-use Rattle.writer.specs.Puts.{puts-more, field-ends}
+use Rattle.writer.specs.Puts.{puts-next, field-ends}
 use Rattle.writer.proofs.packing.put_number.Statement.{statement}
 use Rattle.writer.proofs.packing.put_number.Tie as tie
 
@@ -16,12 +16,15 @@ put-field-requires-4 : tie.Need-put-field-requires-4
 put-field-requires-4 c κs = omega (arith, field-ends (c .before .before .before .before .put-field3 .ensures))
 
 returns : tie.Need-returns
-returns c = rw (c .before .before .before .before .before .before .before .before .enum-told .given .1) (puts-more (c .before .before .before .before .before .before .put-field .ensures) (c .before .before .put-field2 .ensures))
+returns c = rw (c .before .before .before .before .before .before .before .before .enum-told .given .1) (search puts-next)
 
 returns-2 : tie.Need-returns-2
 returns-2 c =
-    let number = c .before .before .before .unsigned .ensures ∙ ap unsigned (toZ-ofZ w64 (c .before .before .before .before .before .before .before .before .before .before .y .given .0 .0) (record { sfits = c .before .before .before .before .before .before .before .before .before .known-told .given .0 .1 })) in
-    rw (c .before .before .before .before .before .before .before .before .before .before .y .given .1, ← number) (puts-more (c .before .before .before .before .before .before .before .put-field3 .ensures) (c .before .before .put-field4 .ensures))
+    let arm = c .before .before .before .before .before .before .before .before .before in
+    let whole = toZ-ofZ w64 (arm .before .y .given .0 .0) (record { sfits = arm .known-told .given .0 .1 }) in
+    let number = c .before .before .before .unsigned .ensures ∙ ap unsigned whole in
+    let first = c .before .before .before .before .before .before .before .put-field3 .ensures in
+    rw (arm .before .y .given .1, ← number) (puts-next first (c .before .before .put-field4 .ensures))
 
 pub put-number-spec : {M : Type 1} → statement M
 put-number-spec =

@@ -21,13 +21,13 @@ loop-holds : tie.Need-loop-holds Inv-loop μ-loop
 loop-holds c = let t = c .before .args .t3 in (omega arith, puts-start (λ x. numberParts (initialOf t x)))
 
 put-number-requires : tie.Need-put-number-requires Inv-loop μ-loop
-put-number-requires c κs = omega (arith, c .before .before .before .loop .inv .1 .ends, variables-width (c .before .before .before .before .before .args .t3) (c .before .before .before .loop .x))
+put-number-requires c κs =
+    let loop = c .before .before .before .loop in
+    omega (arith, loop .inv .1 .ends, variables-width (c .before .before .before .before .before .args .t3) (loop .x))
 
 loop-again : tie.Need-loop-again Inv-loop μ-loop
 unfolding initialOf
-loop-again c =
-    let t = c .before .before .before .before .before .before .before .before .args .t3 in
-    (omega arith, puts-joined (c .before .before .before .before .before .before .loop .x) (λ x. numberParts (initialOf t x)) (c .before .before .before .before .before .before .loop .inv .1) (c .before .before .put-number .ensures))
+loop-again c = (omega arith, search puts-joined)
 
 same-length : tie.Need-same-length Inv-loop μ-loop
 same-length c = puts-length (c .before .loop .inv .1)
