@@ -2,11 +2,11 @@
 use mathlib.Core.List.{List}
 use mathlib.Core.Path.{_≡_, refl, sym, _∙_, ap}
 use Prim.Native.Nat.{ℕ, zero, suc, _+_, _-_, _*_, _/_, _%_, _^_, _<_, _≤_}
-use native.Mathlib.Nat.{pow-suc, mul-assoc, add-mul, add-assoc, mod-lt, add-suc, add-zero}
+use native.Mathlib.Nat.{pow-suc, mul-assoc, add-assoc, mod-lt, add-suc, add-zero}
 use native.Mathlib.Numerals.{add-one}
 use native.Mathlib.Omega.{arith}
 use lib.Pow.{high, low, shr-shr, mod-pow-add}
-use Rattle.bits.specs.Bits.{numberFrom, bitAt, bitsAt}
+use Rattle.bits.specs.Bits.{numberFrom, bitAt}
 
 -- every bit is 0 or 1
 abbrev pub Bitwise : (ℕ → ℕ) → Type 0
@@ -59,6 +59,6 @@ unfolding numberFrom
 number-of-bits bit at zero v same = omega arith
 number-of-bits bit at (suc w) v same =
     let deeper : (i : ℕ) → i < w → bit (at + i) ≡ v / 2 / 2 ^ (w - suc i) % 2 =
-      λ i h. same i (omega arith) ∙ ap (λ (k : ℕ). v / 2 ^ k % 2) (omega arith) ∙ ap (λ (x : ℕ). x % 2) (sym (shr-shr v 1 (w - suc i))) in
+    λ i h. same i (omega arith) ∙ ap (λ (k : ℕ). v / 2 ^ k % 2) (omega arith) ∙ ap (λ (x : ℕ). x % 2) (sym (shr-shr v 1 (w - suc i))) in
     let last : bit (at + w) ≡ v % 2 = same w (omega arith) ∙ ap (λ (k : ℕ). v / 2 ^ k % 2) {x = suc w - suc w} {y = 0} (omega arith) ∙ omega arith in
     rw (number-of-bits bit at w (v / 2) deeper, last, ← add-one w, mod-pow-add v w 1) refl

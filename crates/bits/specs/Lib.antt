@@ -10,5 +10,6 @@ pub mod Lists
 pub mod Packing
 pub mod Putall
 pub mod Reading
+pub mod Giving
 pub mod Packed
 pub mod Window

@@ -1,6 +1,6 @@
 -- Whole bytes as a number: what a window of bytes holds.
 use mathlib.Core.List.{List}
-use mathlib.Core.Path.{_≡_, sym, _∙_, ap}
+use mathlib.Core.Path.{_≡_, _∙_, ap}
 use Prim.Native.Nat.{ℕ, suc, _+_, _-_, _*_, _/_, _%_, _^_, _<_, _≤_}
 use native.Mathlib.Nat.{mod-eq-of-lt}
 use native.Mathlib.Omega.{arith}
@@ -15,7 +15,7 @@ unfolding bitsAt bitAt
 byte-number s i byte =
     number-of-bits (bitAt s) (8 * i) 8 (getD s i 0)
     (λ j h. ap (λ (k : ℕ). getD s k 0 / 2 ^ (7 - (8 * i + j) % 8) % 2) {x = (8 * i + j) / 8} {y = i} (omega arith)
-      ∙ ap (λ (k : ℕ). getD s i 0 / 2 ^ k % 2) {x = 7 - (8 * i + j) % 8} {y = 8 - suc j} (omega arith))
+    ∙ ap (λ (k : ℕ). getD s i 0 / 2 ^ k % 2) {x = 7 - (8 * i + j) % 8} {y = 8 - suc j} (omega arith))
     ∙ mod-eq-of-lt byte
 
 -- a field is below 2^w

@@ -1,19 +1,19 @@
 -- A field put by its window: the bytes that it touches are taken as one number, the field is replaced in it, and its bytes are stored again.
-use mathlib.Core.Bool.{Bool, true, false, cond, _&&_}
+use mathlib.Core.Bool.{false, _&&_}
 use mathlib.Core.List.{List}
 use mathlib.Core.Logic.{_≢_, ⊎-elim}
 use mathlib.Core.Path.{_≡_, refl, sym, ap, _∙_}
 use Prim.Native.Nat.{ℕ, zero, suc, _+_, _-_, _*_, _/_, _%_, _^_, _<_, _≤_}
 use native.Mathlib.Decide.{decLt}
-use native.Mathlib.Nat.{add-assoc, mod-lt, eq-or-lt-of-le}
+use native.Mathlib.Nat.{add-assoc, eq-or-lt-of-le}
 use native.Mathlib.Omega.{arith}
 use borrow.Author.Tests.{lt-ltb, le-ltb, le-leb, lt-leb}
-use lib.Dec.{leb, ltb}
+use lib.Dec.{leb}
 use lib.ListN.{length, getD, set, length-set}
 use lib.Pow.{high, low}
 use lib.Seq.{getD-set-same, getD-set-other, ext-getD}
 use Rattle.bits.specs.Bits.{numberFrom, bitAt, bitsAt, bytesFrom, wholly, widest}
-use Rattle.bits.specs.Digits.{Bitwise, bit-lt, number-lt, number-same, number-split, number-part, number-of-bits}
+use Rattle.bits.specs.Digits.{bit-lt, number-lt, number-same, number-split, number-part, number-of-bits}
 use Rattle.bits.specs.Holding.{Bytes}
 use Rattle.bits.specs.Packing.{length-from, byte-from, byte-again}
 use Rattle.bits.specs.Putall.{put-lt}

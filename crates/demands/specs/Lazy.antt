@@ -1,5 +1,5 @@
 -- Lazy builds that meet part of a demand, and the statement that stops each.
-use mathlib.Core.List.{List, [], _∷_, _++_}
+use mathlib.Core.List.{[]}
 use mathlib.Core.Path.{_≡_, refl, ap}
 use Prim.Native.Nat.{ℕ}
 use native.Mathlib.Omega.{arith}
@@ -13,7 +13,7 @@ use Rattle.script.specs.declared.Script.{Script}
 use Rattle.script.specs.Reader.{theReader}
 use Rattle.script.specs.Writer.{writeScript, theWriter}
 use Rattle.script.specs.Orders.{recordedTable, recordedBlock, recordedScript}
-use Rattle.demands.specs.Scripts.{Build, readAs, filled, ScriptsReturn, TablesReturn, ours}
+use Rattle.demands.specs.Scripts.{Build, filled, ScriptsReturn, TablesReturn, ours}
 
 -- "A reader that refuses everything"
 abbrev pub refusesAll : Build

@@ -37,13 +37,13 @@ filled size = record { answer = Answer.Accepted; size = size }
 pub record ScriptsReturn (build : Build) : Type 0 where
   pub same : (s : List ℕ) → Bytes s → (t : Table) → build .read s ≡ readAs t → (destination : List ℕ) → length s ≤ length destination
       → (build .write t (build .block s) destination ≡ filled (length s))
-        × (build .written t (build .block s) destination ≡ s ++ drop (length s) destination)
+      × (build .written t (build .block s) destination ≡ s ++ drop (length s) destination)
 
 -- "table and labels to script and back give the same table and labels"
 pub record TablesReturn (build : Build) : Type 0 where
   pub same : (t : Table) → Shaped t → (block destination : List ℕ) (size : ℕ) → build .write t block destination ≡ filled size
       → (build .read (take size (build .written t block destination)) ≡ readAs t)
-        × (build .block (take size (build .written t block destination)) ≡ block)
+      × (build .block (take size (build .written t block destination)) ≡ block)
 
 -- the document's reader and writer; proofs/Ours.antt shows that our functions' contracts say just this
 abbrev pub ours : Build
@@ -68,8 +68,8 @@ unfolding writeScript writeBytes
 our-tables-return =
     record {
       same = λ t shaped block destination size wrote.
-        let done = reply-accepted (writerFault t block (length destination)) (scriptBytes t block) destination size wrote in
-        (rw (done .1) (table-again t shaped block (length destination) (done .0)), rw (done .1) (labels-again t shaped block (length destination) (done .0)));
+          let done = reply-accepted (writerFault t block (length destination)) (scriptBytes t block) destination size wrote in
+          (rw (done .1) (table-again t shaped block (length destination) (done .0)), rw (done .1) (labels-again t shaped block (length destination) (done .0)));
     }
 
 -- (a) a script that the reader accepts, written again from its table and its labels, gives the same bytes
@@ -78,10 +78,10 @@ unfolding readScript writeScript writeBytes
 our-scripts-return =
     record {
       same = λ s bytes t read destination room.
-        let whole = reply-got (scriptOf s) t read in
-        let again = script-again s bytes t (whole .0) (whole .1) in
-        let taken = writer-takes s bytes t (whole .0) (whole .1) (length destination) room in
-        (rw (taken, again) refl, rw (taken, again) refl);
+          let whole = reply-got (scriptOf s) t read in
+          let again = script-again s bytes t (whole .0) (whole .1) in
+          let taken = writer-takes s bytes t (whole .0) (whole .1) (length destination) room in
+          (rw (taken, again) refl, rw (taken, again) refl);
     }
 
 -- "so no two scripts mean one table and labels"

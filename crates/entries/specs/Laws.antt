@@ -14,7 +14,7 @@ use Rattle.refusals.specs.declared.Answer.{Answer}
 use Rattle.refusals.specs.Numbering.{unless}
 use Rattle.bits.specs.declared.Field.{Field}
 use Rattle.bits.specs.Bits.{fieldAt}
-use Rattle.bits.specs.Packing.{there-lt}
+use Rattle.bits.specs.Fields.{there-lt}
 use Rattle.bits.specs.Twos.{signed}
 use Rattle.bits.specs.Reading.{Got, got, refused, onward, judged, taken, field}
 use Rattle.table.specs.declared.Sort.{Sort}

@@ -14,7 +14,7 @@ use lib.Seq.{drop-cons}
 use Rattle.refusals.specs.declared.Refusal.{Refusal}
 use Rattle.bits.specs.declared.Field.{Field}
 use Rattle.bits.specs.Bits.{fieldAt}
-use Rattle.bits.specs.Fields.{field-past}
+use Rattle.bits.specs.Fields.{there-ends}
 use Rattle.bits.specs.Reading.{Got, got, refused}
 use Rattle.table.specs.Limits.{limits}
 use Rattle.script.specs.declared.Span.{Span}
@@ -43,9 +43,7 @@ label-cut s at e = rw e
 
 -- a length that is there is one of the bytes
 pub length-within : (s : List ℕ) (from size : ℕ) → fieldAt s (8 * from) 8 ≡ Field.There size → from < length s
-length-within s from size e =
-    by-cases (decLe (8 * from + 8) (8 * length s)) (λ room. omega arith)
-    (λ short. let missing = field-past s (8 * from) 8 (omega arith) in let z : _≡_ {A = ℕ} 0 1 = cc in absurd (omega arith))
+length-within s from size e = omega (arith, there-ends s (8 * from) 8 size e)
 
 -- "label over 32"
 pub label-long : (s : List ℕ) (at size : ℕ) → fieldAt s at 8 ≡ Field.There size → limits .label < size → label s at ≡ refused Refusal.Label

@@ -1,10 +1,9 @@
 // Labels read one after another, up to the end of the bytes.
 mod counting;
 
+use bits::Field;
 pub use counting::before;
 pub use counting::labelled;
-
-use bits::Field;
 use refusals::Answer;
 use refusals::Refusal;
 use script::Label;

@@ -21,7 +21,7 @@ use Rattle.script.specs.declared.Span.{Span}
 use Rattle.script.specs.declared.Label.{Label}
 use Rattle.script.specs.Labels.{printable, text, label, labels}
 use Rattle.script.specs.Reader.{packedTable, scriptOf, noLabel, labelSpan, labelReply, labelIn, labelOf, blockAfter, blockIn, blockOf}
-use Rattle.roundtrip.specs.ReadGiving.{Gives, gives-value, gives-refused, gives-onward, gives-field}
+use Rattle.bits.specs.Giving.{Gives, gives-value, gives-refused, gives-onward, gives-field}
 use Rattle.reader.specs.Scans.{spanAfter, spanIn, blockSpan}
 use Rattle.reader.specs.ScanLaws.{block-begins}
 

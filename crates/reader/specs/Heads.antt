@@ -14,7 +14,7 @@ use Rattle.bits.specs.Bits.{fieldAt}
 use Rattle.bits.specs.Reading.{got, refused, Reading, give, _>>=_, field}
 use Rattle.table.specs.declared.Table.{Table}
 use Rattle.table.specs.Limits.{limits}
-use Rattle.script.specs.Reader.{counted, withEvent, withVariable, header, imports, variables, starting}
+use Rattle.script.specs.Reader.{counted, withEvent, withVariable, imports, variables, starting}
 
 -- the header from its import count on
 abbrev pub counts : ℕ → Reading Table

@@ -2,7 +2,7 @@
 use mathlib.Core.Bool.{Bool, true, false}
 use mathlib.Core.List.{List}
 use mathlib.Core.Path.{_≡_, refl, sym, _∙_, ap}
-use Prim.Native.Nat.{ℕ, _+_, _*_, _≤_}
+use Prim.Native.Nat.{ℕ, _*_, _≤_}
 use native.Mathlib.Omega.{arith}
 use lib.ListN.{length}
 use Rattle.refusals.specs.declared.Refusal.{Refusal}
@@ -12,7 +12,7 @@ use Rattle.bits.specs.Packing.{holds-end}
 use Rattle.table.specs.declared.Table.{Table}
 use Rattle.table.specs.Limits.{limits}
 use Rattle.script.specs.Reader.{header, imports, variables, entries, packedTable}
-use Rattle.roundtrip.specs.ReadFaults.{Within}
+use Rattle.table.specs.Sound.{Within}
 use Rattle.roundtrip.specs.ReadSoFar.{SoFar, firstParts}
 use Rattle.roundtrip.specs.ReadTable.{header-read, imports-read, variables-read, entries-read}
 use Rattle.reader.specs.declared.Stage.{Stage}

@@ -1,9 +1,8 @@
 -- The entries of a script, as far as they have been read.
-use mathlib.Core.Bool.{true, false}
 use mathlib.Core.List.{List}
 use mathlib.Core.Logic.{⊎-elim}
 use mathlib.Core.Path.{_≡_, refl, sym, _∙_, ap}
-use Prim.Native.Nat.{ℕ, zero, suc, _+_, _-_, _<_, _≤_}
+use Prim.Native.Nat.{ℕ, suc, _+_, _-_, _<_, _≤_}
 use native.Mathlib.Nat.{ne-of-lt, eq-or-lt-of-le, le-of-suc-le-suc, sub-eq-zero-of-le}
 use native.Mathlib.Numerals.{add-one}
 use native.Mathlib.Omega.{arith}
@@ -22,7 +21,7 @@ use Rattle.script.specs.Reader.{withEntry, entry, entries}
 use Rattle.kinds.specs.Apart.{apartOf, sortOfKind}
 use Rattle.kinds.specs.Laws.{sort-of-kind}
 use Rattle.entries.specs.declared.Entered.{Entered}
-use Rattle.entries.specs.Entering.{entryBy, enteredOf, entered}
+use Rattle.entries.specs.Entering.{enteredOf, entered}
 use Rattle.entries.specs.Laws.{entry-by}
 
 -- k entries of t are read from bit `from` up to bit `at`: the table holds them, and their sorts are at hand
@@ -90,14 +89,14 @@ module _ {s : List ℕ} {from : ℕ} {t table : Table} {sorts : List ℕ} {at k 
   sort-known e sort is slot a h =
       ⊎-elim
       (λ here.
-        rw (here, getD-set-same sorts k sort 0 (omega (arith, so-far .room)))
-        (is
-        ∙ sort-of-kind e
-        ∙ ap (λ (x : EntrySlot). sortNumber (sortOf (x .entry))) (sym (getD-set-same (table .entries) k (record { entry = e }) unused (omega (arith, so-far .slots))))))
+      rw (here, getD-set-same sorts k sort 0 (omega (arith, so-far .room)))
+      (is
+      ∙ sort-of-kind e
+      ∙ ap (λ (x : EntrySlot). sortNumber (sortOf (x .entry))) (sym (getD-set-same (table .entries) k (record { entry = e }) unused (omega (arith, so-far .slots))))))
       (λ before.
-        getD-set-other sorts k a sort 0 (ne-of-lt before)
-        ∙ so-far .known a before
-        ∙ ap (λ (x : EntrySlot). sortNumber (sortOf (x .entry))) (sym (getD-set-other (table .entries) k a (record { entry = e }) unused (ne-of-lt before))))
+      getD-set-other sorts k a sort 0 (ne-of-lt before)
+      ∙ so-far .known a before
+      ∙ ap (λ (x : EntrySlot). sortNumber (sortOf (x .entry))) (sym (getD-set-other (table .entries) k a (record { entry = e }) unused (ne-of-lt before))))
       (eq-or-lt-of-le (le-of-suc-le-suc (rw (add-one k) at h)))
 
   -- one entry more

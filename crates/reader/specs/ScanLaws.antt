@@ -11,7 +11,7 @@ use lib.ListN.{length}
 use Rattle.replies.specs.Plain.{both-true}
 use Rattle.refusals.specs.declared.Refusal.{Refusal}
 use Rattle.refusals.specs.declared.Answer.{Answer}
-use Rattle.bits.specs.Reading.{Got, got, refused, onward, onward-onward, ended}
+use Rattle.bits.specs.Reading.{Got, got, refused, onward, onward-onward}
 use Rattle.table.specs.declared.Table.{Table}
 use Rattle.table.specs.Limits.{limits}
 use Rattle.table.specs.Kinds.{labelled}
@@ -24,7 +24,7 @@ use Rattle.labels.specs.Counting.{labels-more}
 use Rattle.labels.specs.Among.{spanOf, amongReply, labelsToEnd, labelAfter, labelAmong}
 use Rattle.bits.specs.Bits.{paddingAt}
 use Rattle.bits.specs.Holding.{widthOfAll}
-use Rattle.bits.specs.Packing.{there-ends}
+use Rattle.bits.specs.Fields.{there-ends}
 use Rattle.script.specs.Writer.{tableParts}
 use Rattle.roundtrip.specs.ReadTable.{table-read}
 use Rattle.reader.specs.declared.Scan.{Scan}

@@ -4,11 +4,10 @@ mod packed;
 mod rules;
 mod scanning;
 
+use refusals::Answer;
 pub use scanning::find_label;
 pub use scanning::read;
 pub use scanning::scan_script;
-
-use refusals::Answer;
 use script::Label;
 use script::Span;
 use table::Table;

@@ -37,7 +37,7 @@ pub by-place {ℓ} : {K : Type ℓ} {A R S : K → Type 0} {T B F : Type 0} {tex
 by-place =
     record {
       same = λ κs a r₁ r₂ s₁ s₂ p q.
-        (p .0 ∙ sym (q .0), ((p .1 .0 .0 ∙ sym (q .1 .0 .0), p .1 .0 .1 ∙ sym (q .1 .0 .1)), p .1 .1 ∙ sym (q .1 .1)));
+          (p .0 ∙ sym (q .0), ((p .1 .0 .0 ∙ sym (q .1 .0 .0), p .1 .0 .1 ∙ sym (q .1 .0 .1)), p .1 .1 ∙ sym (q .1 .1)));
     }
 
 -- every reply that a contract allows, seen so, is this one

@@ -1,8 +1,6 @@
 -- Scripts there and back, both ways round.
 -- "table and labels to script and back give the same table and labels"
-pub mod WrittenAnswers
 pub mod WrittenTwos
-pub mod WrittenSound
 pub mod WrittenFitting
 pub mod WrittenSlots
 pub mod WrittenSoFar
@@ -11,7 +9,6 @@ pub mod WrittenEntries
 pub mod WrittenTable
 pub mod WrittenLabels
 pub mod WrittenAgain
-pub mod ReadGiving
 pub mod ReadNumbers
 pub mod ReadStanding
 pub mod ReadEntries

@@ -10,7 +10,8 @@ use borrow.Author.Tests.{ltb-false, le-leb}
 use Rattle.refusals.specs.declared.Refusal.{Refusal}
 use Rattle.refusals.specs.declared.Answer.{Answer}
 use Rattle.bits.specs.Holding.{Bytes, widthOfAll}
-use Rattle.bits.specs.Packing.{held-packed, there-ends}
+use Rattle.bits.specs.Fields.{there-ends}
+use Rattle.bits.specs.Packing.{held-packed}
 use Rattle.bits.specs.Reading.{Got, got, refused}
 use Rattle.table.specs.declared.Table.{Table}
 use Rattle.table.specs.Limits.{limits}
@@ -18,7 +19,7 @@ use Rattle.table.specs.Tables.{Shaped, labelsBefore}
 use Rattle.script.specs.Labels.{labels}
 use Rattle.script.specs.Reader.{packedTable, wholeScript, scriptOf, blockOf}
 use Rattle.script.specs.Writer.{tableParts, scriptBytes, blockFault, writerFault}
-use Rattle.roundtrip.specs.ReadGiving.{Gives, gives-value, gives-refused, gives-onward, gives-ended}
+use Rattle.bits.specs.Giving.{Gives, gives-value, gives-refused, gives-onward, gives-ended}
 use Rattle.roundtrip.specs.ReadTable.{TableRead, table-read}
 use Rattle.roundtrip.specs.ReadBlock.{block-sound}
 

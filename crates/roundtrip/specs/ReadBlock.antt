@@ -20,7 +20,7 @@ use Rattle.table.specs.Tables.{labelsBefore}
 use Rattle.script.specs.declared.Span.{Span}
 use Rattle.script.specs.Labels.{printable, text, label, labels}
 use Rattle.script.specs.Writer.{blockFault}
-use Rattle.roundtrip.specs.ReadGiving.{Gives, gives-value, gives-refused, gives-onward, gives-field}
+use Rattle.bits.specs.Giving.{Gives, gives-value, gives-refused, gives-onward, gives-field}
 
 -- two tests of order that say the same
 same-test : (a b c d : ℕ) → (a ≤ b → c ≤ d) → (b < a → d < c) → leb a b ≡ leb c d

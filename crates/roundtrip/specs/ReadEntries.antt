@@ -21,9 +21,10 @@ use Rattle.table.specs.Faults.{operandFault, operandsFault}
 use Rattle.script.specs.Operands.{widthOf, fieldOf, constantField}
 use Rattle.script.specs.Reader.{operand, bare, one, two, three, kinds, entry}
 use Rattle.script.specs.Writer.{part, entryParts}
-use Rattle.bits.specs.Packing.{there-lt}
-use Rattle.roundtrip.specs.ReadGiving.{Gives, gives-value, gives-also, gives-field, unless-true}
-use Rattle.roundtrip.specs.ReadNumbers.{signed-again}
+use Rattle.bits.specs.Fields.{there-lt}
+use Rattle.refusals.specs.Accepting.{unless-accepted}
+use Rattle.bits.specs.Giving.{Gives, gives-value, gives-also, gives-field}
+use Rattle.roundtrip.specs.ReadNumbers.{unsigned-signed}
 use Rattle.roundtrip.specs.ReadStanding.{Stands, stands-none, stands-more}
 
 infixr 20 _then_
@@ -47,7 +48,7 @@ variable-packs : Packs variable
 variable-packs = record { wide = λ v. refl; is = λ v h. refl }
 
 constant-packs : Packs constantField
-constant-packs = record { wide = λ v. refl; is = signed-again }
+constant-packs = record { wide = λ v. refl; is = unsigned-signed }
 
 -- operands of entry k that were read: their fields stand in the bytes, and none is at fault
 pub record Operands (t : Table) (k : ℕ) (s : List ℕ) (at next : ℕ) (os : List Operand) : Type 0 where
@@ -164,6 +165,6 @@ module _ (t : Table) (k : ℕ) (s : List ℕ) where
   entry-read at =
       gives-field s at 5 _ _ _
       (λ kind there good.
-      let known : kind < 25 = ltb-true kind 25 (unless-true (ltb kind 25) Refusal.Kind good) in
+      let known : kind < 25 = ltb-true kind 25 (unless-accepted (ltb kind 25) Refusal.Kind good) in
       gives-also (row-at rows kind kind (bare Entry.Clock) (at + 5) (omega arith) known)
       (λ e next row. (rw (row .kind-is) (stands-more there (row .operands .stand)), row .operands .sound)))

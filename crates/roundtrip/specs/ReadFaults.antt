@@ -5,16 +5,13 @@ use Prim.Native.Nat.{ℕ, zero, suc, _<_, _≤_}
 use native.Mathlib.Omega.{arith}
 use lib.Dec.{ltb}
 use lib.IntN.{pos}
-use borrow.Author.Tests.{ltb-false, le-leb}
+use borrow.Author.Tests.{ltb-false}
 use Rattle.values.specs.declared.Number.{Number}
-use Rattle.refusals.specs.declared.Answer.{Answer}
-use Rattle.refusals.specs.Numbering.{firstFault}
 use Rattle.table.specs.declared.Entry.{Entry}
 use Rattle.table.specs.declared.Table.{Table}
 use Rattle.table.specs.Limits.{limits}
 use Rattle.table.specs.Kinds.{operandsOf}
 use Rattle.table.specs.Tables.{entryAt, isEvent, initialOf, zeroConstant, isUndefined, everySlot, unusedSlots}
-use Rattle.table.specs.Faults.{numberFault, operandsFault, limitsFault, tableFault}
 
 -- a test that holds at each slot from one number up to another
 pub every-slot : (from to : ℕ) (p : ℕ → Bool) → ((k : ℕ) → from ≤ k → k < to → p k ≡ true) → everySlot from to p ≡ true
@@ -26,19 +23,6 @@ every-slot from (suc k) p each = rw (every-slot from k p (λ j late early. each 
     by-test true e = refl
     by-test false e = each k (ltb-false k from e) (omega arith)
 
--- no fault where there is none at any number
-pub no-fault : (n : ℕ) (f : ℕ → Answer) → ((j : ℕ) → j < n → f j ≡ Answer.Accepted) → firstFault n f ≡ Answer.Accepted
-unfolding firstFault
-no-fault zero f each = refl
-no-fault (suc n) f each = rw (no-fault n f (λ j h. each j (omega arith)), each n (omega arith))
-
--- counts within their limits
-pub record Within (t : Table) : Type 0 where
-  pub some-entry : 1 ≤ t .n
-  pub entries : t .n ≤ limits .entries
-  pub imports : t .q ≤ limits .imports
-  pub variables : t .v ≤ limits .variables
-
 -- "unused entry slots are the constant 0, unused import slots conditions, unused variable slots undefined"
 pub unused-slots : (t : Table) → ((j : ℕ) → t .n ≤ j → j < limits .slots → entryAt t j ≡ Entry.Constant (pos 0))
     → ((j : ℕ) → t .q ≤ j → isEvent t j ≡ false) → ((j : ℕ) → t .v ≤ j → initialOf t j ≡ Number.Undefined) → unusedSlots t ≡ true
@@ -49,23 +33,3 @@ unused-slots t no-entry no-import no-number =
       every-slot (t .q) (limits .imports) (λ i. not (isEvent t i)) (λ i late early. rw (no-import i late)),
       every-slot (t .v) (limits .variables) (λ x. isUndefined (initialOf t x)) (λ x late early. rw (no-number x late)),
     )
-
--- "n, q or v outside its limits; ... also an unused slot"
-pub within-limits : (t : Table) → Within t → unusedSlots t ≡ true → limitsFault t ≡ Answer.Accepted
-unfolding limitsFault
-within-limits t within unused =
-    rw (
-      le-leb 1 (t .n) (within .some-entry),
-      le-leb (t .n) (limits .entries) (within .entries),
-      le-leb (t .q) (limits .imports) (within .imports),
-      le-leb (t .v) (limits .variables) (within .variables),
-      unused,
-    )
-
--- the writer's check of a table, part by part
-pub table-sound : (t : Table) → limitsFault t ≡ Answer.Accepted → ((x : ℕ) → x < t .v → numberFault (initialOf t x) ≡ Answer.Accepted)
-    → ((k : ℕ) → k < t .n → operandsFault t k (operandsOf (entryAt t k)) ≡ Answer.Accepted) → tableFault t ≡ Answer.Accepted
-unfolding tableFault
-table-sound t limited numbers operands =
-    rw (limited, no-fault (t .v) (λ x. numberFault (initialOf t x)) numbers)
-    (no-fault (t .n) (λ k. operandsFault t k (operandsOf (entryAt t k))) operands)

@@ -16,9 +16,9 @@ use Rattle.script.specs.Reader.{starting}
 use Rattle.script.specs.Writer.{part, numberParts}
 
 -- the number in the field again
-pub signed-again : (v : ℕ) → v < 2 ^ 48 → unsigned (signed v) ≡ v
+pub unsigned-signed : (v : ℕ) → v < 2 ^ 48 → unsigned (signed v) ≡ v
 unfolding signed unsigned
-signed-again v h = by-test (ltb v (2 ^ 47))
+unsigned-signed v h = by-test (ltb v (2 ^ 47))
   where
     by-test : (b : Bool) → unsigned (cond b (pos v) (negsuc (2 ^ 48 - suc v))) ≡ v
     by-test true = refl
@@ -43,7 +43,7 @@ bit-again (suc (suc b)) h = absurd (omega arith)
 pub starting-again : (bit v : ℕ) → bit < 2 → v < 2 ^ 48 → (eqb bit 1 || eqb v 0) ≡ true
     → numberParts (starting bit v) ≡ part 1 bit ∷ part 48 v ∷ []
 starting-again zero v two h good = ap (λ (u : ℕ). part 1 0 ∷ part 48 u ∷ []) (sym (eqb-true v 0 good))
-starting-again (suc zero) v two h good = ap (λ (u : ℕ). part 1 1 ∷ part 48 u ∷ []) (signed-again v h)
+starting-again (suc zero) v two h good = ap (λ (u : ℕ). part 1 1 ∷ part 48 u ∷ []) (unsigned-signed v h)
 starting-again (suc (suc b)) v two h good = absurd (omega arith)
 
 -- and it is no fault

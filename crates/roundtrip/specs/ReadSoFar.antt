@@ -27,7 +27,7 @@ use Rattle.table.specs.Tables.{Shaped, entryAt, isEvent, importSort, initialOf}
 use Rattle.table.specs.Faults.{numberFault, operandFault, operandsFault}
 use Rattle.script.specs.Reader.{withEvent, withVariable, withEntry, starting}
 use Rattle.script.specs.Writer.{part, joined, headerParts, importParts, numberParts, entryParts}
-use Rattle.bits.specs.Packing.{there-lt}
+use Rattle.bits.specs.Fields.{there-lt}
 use Rattle.roundtrip.specs.ReadNumbers.{bit-again, starting-again, starting-sound}
 use Rattle.roundtrip.specs.ReadStanding.{Stands, stands-none, stands-more, stands-append}
 

@@ -1,5 +1,5 @@
 -- The table of a script, read: its fields stand in the bytes, zero bits follow up to a whole byte, and it has no fault.
-use mathlib.Core.Bool.{Bool, true, false, _&&_}
+use mathlib.Core.Bool.{false}
 use mathlib.Core.List.{List}
 use mathlib.Core.Path.{_≡_, refl, sym, ap, subst, subst₃}
 use Prim.Native.Nat.{ℕ, zero, suc, _+_, _*_, _/_}
@@ -22,11 +22,13 @@ use Rattle.table.specs.Tables.{Shaped, entryAt, isEvent, initialOf}
 use Rattle.table.specs.Faults.{tableFault}
 use Rattle.script.specs.Reader.{counted, header, imports, variables, entries, packedTable}
 use Rattle.script.specs.Writer.{joined, headerParts, tableParts}
-use Rattle.roundtrip.specs.ReadGiving.{Gives, gives-value, gives-onward, gives-field, unless-true}
+use Rattle.refusals.specs.Accepting.{unless-accepted}
+use Rattle.bits.specs.Giving.{Gives, gives-value, gives-onward, gives-field}
 use Rattle.roundtrip.specs.ReadStanding.{Stands, stands-none, stands-more}
 use Rattle.roundtrip.specs.ReadEntries.{entry-read}
 use Rattle.roundtrip.specs.ReadSoFar.{SoFar, import-step, variable-step, entry-step}
-use Rattle.roundtrip.specs.ReadFaults.{Within, unused-slots, within-limits, table-sound}
+use Rattle.table.specs.Sound.{Within, within-limits, table-sound}
+use Rattle.roundtrip.specs.ReadFaults.{unused-slots}
 
 -- a list of one thing has it everywhere
 alike : {A : Type 0} (n i : ℕ) (a : A) → getD (replicate n a) i a ≡ a
@@ -60,15 +62,15 @@ header-read s =
     gives-field s _ 6 _ _ _ (λ q imports-there few.
     gives-field s _ 6 _ _ _ (λ v variables-there fewer.
     gives-field s _ 4 _ _ _ (λ z zeros nothing.
-    let bounds = both-true (leb 1 n) (leb n (limits .entries)) (unless-true _ _ some) in
-    let first = eqb-true f 1 (unless-true (eqb f 1) Refusal.Format one) in
-    let last = eqb-true z 0 (unless-true (eqb z 0) Refusal.HeaderBits nothing) in
+    let bounds = both-true (leb 1 n) (leb n (limits .entries)) (unless-accepted _ _ some) in
+    let first = eqb-true f 1 (unless-accepted (eqb f 1) Refusal.Format one) in
+    let last = eqb-true z 0 (unless-accepted (eqb z 0) Refusal.HeaderBits nothing) in
     gives-value (
       record {
         some-entry = leb-true 1 n (bounds .0);
         entries = leb-true n (limits .entries) (bounds .1);
-        imports = leb-true q (limits .imports) (unless-true _ _ few);
-        variables = leb-true v (limits .variables) (unless-true _ _ fewer);
+        imports = leb-true q (limits .imports) (unless-accepted _ _ few);
+        variables = leb-true v (limits .variables) (unless-accepted _ _ fewer);
       },
       counted-so-far s n q v _
           (stands-more (rw first at format)
@@ -93,7 +95,7 @@ module _ (c : Table) (within : Within c) (s : List ℕ) where
   variables-read (suc left) x t at all h =
       gives-field s at 1 _ _ _ (λ bit there good.
       gives-field s _ 48 _ _ _ (λ v number zero-or-defined.
-      variables-read left (suc x) _ _ (omega arith) (variable-step h (omega (arith, within .variables)) there number (unless-true _ _ zero-or-defined))))
+      variables-read left (suc x) _ _ (omega arith) (variable-step h (omega (arith, within .variables)) there number (unless-accepted _ _ zero-or-defined))))
 
   -- "n entries"
   pub entries-read : (left k : ℕ) (t : Table) (at : ℕ) → k + left ≡ c .n → SoFar c s (c .q) (c .v) k t at
@@ -156,5 +158,5 @@ table-read s =
     gives-onward (λ t at₃ read₃.
     let h₃ = entries-read c within s (c .n) 0 started at₂ (omega arith) h₂ .told t at₃ read₃ in
     gives-field s at₃ (paddingAt at₃) _ _ _ (λ z zeros good.
-    let none = eqb-true z 0 (unless-true (eqb z 0) Refusal.Padding good) in
+    let none = eqb-true z 0 (unless-accepted (eqb z 0) Refusal.Padding good) in
     gives-value (whole-table c t s at₃ (own-limits c t s _ _ _ at₃ within h₃) (own-counts c t s at₃ h₃) (rw none at zeros)))))))

@@ -1,6 +1,6 @@
 -- "table and labels to script and back give the same table and labels"
 use mathlib.Core.List.{List, _++_}
-use mathlib.Core.Path.{_≡_, refl, ap, _∙_}
+use mathlib.Core.Path.{_≡_, refl, sym, ap, _∙_}
 use Prim.Native.Nat.{ℕ, _+_, _*_, _/_, _≤_}
 use native.Mathlib.Omega.{arith}
 use borrow.Author.Tests.{leb-true, le-ltb}
@@ -9,7 +9,7 @@ use lib.Seq.{drop-append-seam}
 use Rattle.refusals.specs.declared.Refusal.{Refusal}
 use Rattle.refusals.specs.declared.Answer.{Answer}
 use Rattle.bits.specs.Bits.{bitsOfAll, bytesOf}
-use Rattle.bits.specs.Reading.{Got, got, refused, onward, _>>=_, ended}
+use Rattle.bits.specs.Reading.{Got, got, refused, onward, onward-onward, _>>=_, ended}
 use Rattle.table.specs.declared.Table.{Table}
 use Rattle.table.specs.Limits.{limits}
 use Rattle.table.specs.Tables.{Shaped, labelsBefore}
@@ -17,16 +17,10 @@ use Rattle.table.specs.Faults.{tableFault}
 use Rattle.script.specs.Labels.{labels}
 use Rattle.script.specs.Reader.{wholeScript, scriptOf, scriptReply, readScript, blockOf}
 use Rattle.script.specs.Writer.{tableParts, scriptBytes, answered, blockFault, writerFault}
-use Rattle.roundtrip.specs.WrittenAnswers.{not-accepted, unless-accepted, accepted-first, accepted-second}
-use Rattle.roundtrip.specs.WrittenSound.{sound-table}
+use Rattle.refusals.specs.Accepting.{not-accepted, unless-accepted, accepted-first, accepted-second}
+use Rattle.table.specs.Sound.{sound-table}
 use Rattle.roundtrip.specs.WrittenTable.{packed-again}
 use Rattle.roundtrip.specs.WrittenLabels.{moved, same, block-moved}
-
--- three readings, however they are grouped
-onward-assoc : {A B D : Type 0} (g : Got A) (f : A → ℕ → Got B) (h : B → ℕ → Got D)
-    → onward g (λ a next. onward (f a next) h) ≡ onward (onward g f) h
-onward-assoc (got a next) f h = refl
-onward-assoc (refused r) f h = refl
 
 -- a reading that went through, so many bits further on
 went-through : (g : Got ℕ) (far : ℕ) (t : Table) → answered g ≡ Answer.Accepted
@@ -60,7 +54,7 @@ script-again t shape block good =
     let through = went-through ((labels count >>= λ n. ended Refusal.LeftOver) block 0) (8 * length front) t (good .labels) in (
       through .0,
       rw (le-ltb (limits .script) (length (front ++ block)) (good .short), packed-again t shape (sound-table t (good .table)) block)
-          (onward-assoc (labels count (front ++ block) (8 * length front)) (λ n next. ended Refusal.LeftOver (front ++ block) next) (λ n next. got t next)
+          (sym (onward-onward (labels count (front ++ block) (8 * length front)) (λ n next. ended Refusal.LeftOver (front ++ block) next) (λ n next. got t next))
           ∙ ap (λ (end : Got ℕ). onward end (λ n next. got t next)) (block-moved front block count)
           ∙ through .1),
     )

@@ -22,8 +22,8 @@ use Rattle.table.specs.Faults.{operandFault, operandsFault}
 use Rattle.script.specs.Operands.{widthOf, constantField}
 use Rattle.script.specs.Reader.{operand, bare, one, two, three, kinds, entry}
 use Rattle.script.specs.Writer.{part, entryParts}
-use Rattle.roundtrip.specs.WrittenAnswers.{unless-accepted, accepted-first, accepted-second}
-use Rattle.roundtrip.specs.WrittenTwos.{signed-again}
+use Rattle.refusals.specs.Accepting.{unless-accepted, accepted-first, accepted-second}
+use Rattle.roundtrip.specs.WrittenTwos.{signed-unsigned}
 
 module _ (t : Table) (k : ℕ) (s : List ℕ) (at : ℕ) where
   -- no operand
@@ -74,7 +74,7 @@ module _ (t : Table) (k : ℕ) (s : List ℕ) (at : ℕ) where
       → entry t k s at ≡ got (Constant z) (at + widthOfAll (part 5 15 ∷ part 48 (unsigned z) ∷ []))
   unfolding operandFault kinds
   constant-row z held good =
-      let again = signed-again z (unless-accepted (inRange z) Refusal.Range (accepted-first (unless (inRange z) Refusal.Range) Answer.Accepted good)) in
+      let again = signed-unsigned z (unless-accepted (inRange z) Refusal.Range (accepted-first (unless (inRange z) Refusal.Range) Answer.Accepted good)) in
       one-row 15 constantField (λ v. Constant (signed v)) (unsigned z) refl refl held (rw again good)
       ∙ ap (λ (y : ℤ). got (Constant y) (at + widthOfAll (part 5 15 ∷ part 48 (unsigned z) ∷ []))) again
 

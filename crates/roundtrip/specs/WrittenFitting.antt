@@ -23,9 +23,9 @@ use Rattle.table.specs.Faults.{operandFault, operandsFault, numberFault}
 use Rattle.script.specs.Operands.{widthOf, fieldOf}
 use Rattle.script.specs.Writer.{part, joined, headerParts, importParts, numberParts, entryParts, tableParts}
 use Rattle.bits.specs.Packing.{fitting-append}
-use Rattle.roundtrip.specs.WrittenAnswers.{unless-accepted, accepted-first, accepted-second}
+use Rattle.refusals.specs.Accepting.{unless-accepted, accepted-first, accepted-second}
 use Rattle.roundtrip.specs.WrittenTwos.{unsigned-lt}
-use Rattle.roundtrip.specs.WrittenSound.{Limited, Sound}
+use Rattle.table.specs.Sound.{Within, Sound}
 
 -- there are fewer kinds than 5 bits can say
 pub kind-lt : (e : Entry) → kindOf e < 25
@@ -66,7 +66,7 @@ fitting-joined (suc n) f each = fitting-append (joined n f) (f n) (fitting-joine
 abbrev pub operandPart : Operand → Part
 operandPart o = part (widthOf o) (fieldOf o)
 
-module _ (t : Table) (within : Limited t) where
+module _ (t : Table) (within : Within t) where
   -- an operand without fault
   operand-fits : (k : ℕ) → k ≤ limits .entries → (o : Operand) → operandFault t k o ≡ Answer.Accepted → (widthOf o ≤ 48) × (fieldOf o < 2 ^ widthOf o)
   unfolding operandFault

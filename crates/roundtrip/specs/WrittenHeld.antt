@@ -13,17 +13,17 @@ use Rattle.table.specs.declared.Table.{Table}
 use Rattle.script.specs.Writer.{joined, headerParts}
 use Rattle.script.specs.Reader.{counted, header}
 use Rattle.bits.specs.Packing.{width-append, holds-first, holds-second}
-use Rattle.roundtrip.specs.WrittenSound.{Limited}
+use Rattle.table.specs.Sound.{Within}
 
 -- the head of a table within its limits
-pub header-held : (t : Table) → Limited t → (s : List ℕ) (at : ℕ) → Holds s at (headerParts t)
+pub header-held : (t : Table) → Within t → (s : List ℕ) (at : ℕ) → Holds s at (headerParts t)
     → header s at ≡ got (counted (t .n) (t .q) (t .v)) (at + widthOfAll (headerParts t))
 unfolding header headerParts Holds widthOfAll
 header-held t within s at h =
     rw (
       h .0,
       h .1 .0,
-      le-leb 1 (t .n) (within .one),
+      le-leb 1 (t .n) (within .some-entry),
       le-leb (t .n) 128 (within .entries),
       h .1 .1 .0,
       le-leb (t .q) 48 (within .imports),

@@ -24,9 +24,9 @@ use Rattle.table.specs.Kinds.{Operand, entry, imported, variable, constant, ope
 use Rattle.table.specs.Tables.{Shaped, entryAt, isEvent, importSort, initialOf, zeroConstant, isUndefined, everySlot, unusedSlots}
 use Rattle.table.specs.Faults.{operandFault}
 use Rattle.script.specs.Reader.{withEvent, withVariable, withEntry}
-use Rattle.roundtrip.specs.WrittenAnswers.{never, both-first, both-second}
+use Rattle.replies.specs.Plain.{never, both-true}
 use Rattle.roundtrip.specs.WrittenSlots.{filled, filled-next, filled-same, filled-all}
-use Rattle.roundtrip.specs.WrittenSound.{Limited}
+use Rattle.table.specs.Sound.{Within}
 
 -- slots that nothing stands in
 abbrev pub noEntry : EntrySlot
@@ -83,7 +83,7 @@ guarded true r x y same = same refl
 guarded false r x y same = refl
 
 -- an operand names what was read already, so that its fault is known
-pub so-far-operand : (t : Table) → Shaped t → Limited t → (x k : ℕ) → k ≤ limits .slots → (o : Operand)
+pub so-far-operand : (t : Table) → Shaped t → Within t → (x k : ℕ) → k ≤ limits .slots → (o : Operand)
     → operandFault (soFar t (t .q) x k) k o ≡ operandFault t k o
 unfolding operandFault importSort
 so-far-operand t shape within x k h (entry s a) =
@@ -102,8 +102,8 @@ unfolding everySlot
 every-slot from zero p all k low high = absurd (not-suc-le-zero high)
 every-slot from (suc n) p all k low high =
     ⊎-elim (λ last. subst (λ (j : ℕ). p j ≡ true) (sym last)
-    (rw (le-ltb n from (omega arith)) at (both-second (everySlot from n p) (ltb n from || p n) all)))
-    (λ before. every-slot from n p (both-first (everySlot from n p) (ltb n from || p n) all) k low before)
+    (rw (le-ltb n from (omega arith)) at (both-true (everySlot from n p) (ltb n from || p n) all .1)))
+    (λ before. every-slot from n p (both-true (everySlot from n p) (ltb n from || p n) all .0) k low before)
     (eq-or-lt-of-le (le-of-suc-le-suc high))
 
 -- no number but 0 is the same as 0
@@ -157,12 +157,12 @@ unused-slots t unused =
     let entries = everySlot (t .n) (limits .slots) (λ k. zeroConstant (operandsOf (entryAt t k))) in
     let events = everySlot (t .q) (limits .imports) (λ i. not (isEvent t i)) in
     let variables = everySlot (t .v) (limits .variables) (λ x. isUndefined (initialOf t x)) in
-    let two = both-first (entries && events) variables unused in
+    let two = both-true (entries && events) variables unused .0 in
     record {
-      entries = λ k low high. zero-entry (entryAt t k) (every-slot (t .n) (limits .slots) _ (both-first entries events two) k low high);
-      events = λ i low high. not-true (isEvent t i) (every-slot (t .q) (limits .imports) _ (both-second entries events two) i low high);
+      entries = λ k low high. zero-entry (entryAt t k) (every-slot (t .n) (limits .slots) _ (both-true entries events two .0) k low high);
+      events = λ i low high. not-true (isEvent t i) (every-slot (t .q) (limits .imports) _ (both-true entries events two .1) i low high);
       variables = λ x low high.
-          undefined-number (initialOf t x) (every-slot (t .v) (limits .variables) _ (both-second (entries && events) variables unused) x low high);
+          undefined-number (initialOf t x) (every-slot (t .v) (limits .variables) _ (both-true (entries && events) variables unused .1) x low high);
     }
 
 -- once every count is reached, all of the table was read

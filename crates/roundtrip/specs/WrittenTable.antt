@@ -23,10 +23,10 @@ use Rattle.table.specs.Faults.{operandsFault, numberFault}
 use Rattle.script.specs.Reader.{withVariable, imports, variables, entries, packedTable}
 use Rattle.script.specs.Writer.{joined, headerParts, importParts, numberParts, entryParts, tableParts}
 use Rattle.bits.specs.Packing.{width-append, holds-first, holds-second, length-packed, packed-holds, packed-padding}
-use Rattle.roundtrip.specs.WrittenAnswers.{unless-accepted}
-use Rattle.roundtrip.specs.WrittenSound.{Limited, Sound}
+use Rattle.refusals.specs.Accepting.{unless-accepted}
+use Rattle.table.specs.Sound.{Within, Sound}
 use Rattle.roundtrip.specs.WrittenSoFar.{soFar, so-far-import, so-far-variable, so-far-entry, so-far-operand, so-far-all}
-use Rattle.roundtrip.specs.WrittenTwos.{signed-again}
+use Rattle.roundtrip.specs.WrittenTwos.{signed-unsigned}
 use Rattle.roundtrip.specs.WrittenFitting.{table-fits}
 use Rattle.roundtrip.specs.WrittenHeld.{header-held, beginsAt, joined-held, joined-next, joined-start}
 use Rattle.roundtrip.specs.WrittenEntries.{entry-held}
@@ -37,7 +37,7 @@ bit-again true = refl
 bit-again false = refl
 
 -- the fault of operands of an entry, all of them earlier
-so-far-operands : (t : Table) → Shaped t → Limited t → (x k : ℕ) → k ≤ limits .slots → (os : List Operand)
+so-far-operands : (t : Table) → Shaped t → Within t → (x k : ℕ) → k ≤ limits .slots → (os : List Operand)
     → operandsFault (soFar t (t .q) x k) k os ≡ operandsFault t k os
 unfolding operandsFault
 so-far-operands t shape within x k h [] = refl
@@ -79,7 +79,7 @@ module _ (t : Table) (shape : Shaped t) (sound : Sound t) (s : List ℕ) (at : �
       rw (held .0, held .1 .0)
       (ap (variables left (suc x) (withVariable so x Number.Undefined) s) (omega arith))
   number-held (Number.Whole z) good left x here so held =
-      rw (held .0, held .1 .0, signed-again z (unless-accepted (inRange z) Refusal.Range good))
+      rw (held .0, held .1 .0, signed-unsigned z (unless-accepted (inRange z) Refusal.Range good))
       (ap (variables left (suc x) (withVariable so x (Number.Whole z)) s) (omega arith))
 
   variable-held : Holds s at (joined (t .v) (startParts t)) → (left x : ℕ) → x < t .v

@@ -15,8 +15,8 @@ unsigned-lt (pos n) h = omega (arith, ltb-true n (2 ^ 47) h)
 unsigned-lt (negsuc n) h = omega arith
 
 -- and they stand for it again
-pub signed-again : (z : ℤ) → inRange z ≡ true → signed (unsigned z) ≡ z
+pub signed-unsigned : (z : ℤ) → inRange z ≡ true → signed (unsigned z) ≡ z
 unfolding signed unsigned
-signed-again (pos n) h = rw h
-signed-again (negsuc n) h =
+signed-unsigned (pos n) h = rw h
+signed-unsigned (negsuc n) h =
     rw (le-ltb (2 ^ 48 - suc n) (2 ^ 47) (omega (arith, ltb-true n (2 ^ 47) h))) (ap negsuc (omega (arith, ltb-true n (2 ^ 47) h)))

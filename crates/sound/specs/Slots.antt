@@ -1,17 +1,16 @@
 -- Laws of a test at every slot: it holds where each slot from the number on passes, and fails where one does not.
-use mathlib.Core.Bool.{Bool, true, false, not, _&&_, _||_, and-false, false≢true}
+use mathlib.Core.Bool.{Bool, true, false, not, _&&_, _||_, and-false}
 use mathlib.Core.Logic.{⊎-elim}
 use mathlib.Core.Path.{_≡_, refl}
 use Prim.Native.Nat.{ℕ, zero, suc, _+_, _<_, _≤_}
 use native.Mathlib.Nat.{not-suc-le-zero, eq-or-lt-of-le, le-of-suc-le-suc}
 use native.Mathlib.Decide.{decLt}
 use native.Mathlib.Omega.{arith}
-use lib.Dec.{leb, ltb}
+use lib.Dec.{ltb}
 use lib.ListN.{getD}
 use borrow.Author.Count.{below-more}
-use borrow.Author.Tests.{lt-ltb, le-ltb, leb-true}
+use borrow.Author.Tests.{lt-ltb, le-ltb}
 use Rattle.refusals.specs.declared.Refusal.{Refusal}
-use Rattle.refusals.specs.declared.Answer.{Answer}
 use Rattle.refusals.specs.Numbering.{unless}
 use Rattle.table.specs.declared.Table.{Table}
 use Rattle.table.specs.Limits.{limits}
@@ -65,32 +64,3 @@ pub limits-said : (t : Table) {counts entries imports variables : Bool}
     → limitsFault t ≡ unless (counts && (entries && imports && variables)) Refusal.TableLimits
 unfolding limitsFault unusedSlots entryAt isEvent initialOf
 limits-said t c e i v = rw (c, e, i, v)
-
--- the counts of a table without refusal 4
-pub record Kept (t : Table) : Type 0 where
-  pub some : 1 ≤ t .n
-  pub entries : t .n ≤ limits .entries
-  pub imports : t .q ≤ limits .imports
-  pub variables : t .v ≤ limits .variables
-
-passed : (b : Bool) (r : Refusal) → unless b r ≡ Answer.Accepted → b ≡ true
-passed true r e = refl
-passed false r e = let z : _≡_ {A = ℕ} 0 1 = cc in absurd (omega arith)
-
-both : (a b : Bool) → (a && b) ≡ true → (a ≡ true) × (b ≡ true)
-both true b e = (refl, e)
-both false b e = absurd (false≢true e)
-
-pub limits-kept : (t : Table) → limitsFault t ≡ Answer.Accepted → Kept t
-unfolding limitsFault
-limits-kept t good =
-    let all = both (countsKept (t .n) (t .q) (t .v)) (unusedSlots t) (passed _ Refusal.TableLimits good) in
-    let abc = both (leb 1 (t .n) && leb (t .n) 128 && leb (t .q) 48) (leb (t .v) 32) (all .0) in
-    let ab = both (leb 1 (t .n) && leb (t .n) 128) (leb (t .q) 48) (abc .0) in
-    let a = both (leb 1 (t .n)) (leb (t .n) 128) (ab .0) in
-    record {
-      some = leb-true 1 (t .n) (a .0);
-      entries = leb-true (t .n) 128 (a .1);
-      imports = leb-true (t .q) 48 (ab .1);
-      variables = leb-true (t .v) 32 (abc .1);
-    }

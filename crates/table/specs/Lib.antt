@@ -4,3 +4,4 @@ pub mod Below
 pub mod Kinds
 pub mod Tables
 pub mod Faults
+pub mod Sound

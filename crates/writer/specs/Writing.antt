@@ -23,8 +23,8 @@ use Rattle.script.specs.declared.Span.{Span}
 use Rattle.script.specs.Orders.{table-first, block-next}
 use Rattle.script.specs.Writer.{tableParts, scriptBytes, answered, blockFault, writerFault, writeScript, writeBytes}
 use Rattle.labels.specs.Among.{amongReply, labelsToEnd, labelAfter, labelAmong}
-use Rattle.roundtrip.specs.WrittenAnswers.{accepted-first, accepted-second, unless-accepted}
-use Rattle.roundtrip.specs.WrittenSound.{Limited, sound-table}
+use Rattle.refusals.specs.Accepting.{accepted-first, accepted-second, unless-accepted}
+use Rattle.table.specs.Sound.{Within, sound-table}
 use Rattle.writer.specs.Widths.{entries-wide, table-width, table-narrow}
 use Rattle.writer.specs.Puts.{Puts}
 
@@ -33,7 +33,7 @@ abbrev pub packedSize : Table → ℕ
 packedSize t = (widthOfAll (tableParts t) + 7) / 8
 
 -- a table within its limits takes far fewer than a script may have
-pub packed-small : (t : Table) → Limited t → packedSize t ≤ limits .script
+pub packed-small : (t : Table) → Within t → packedSize t ≤ limits .script
 packed-small t within =
     omega (arith, table-width t, entries-wide t (t .n), within .entries, within .imports, within .variables)
 
@@ -104,7 +104,7 @@ size-told t block room is accepted is' accepted' packed last =
 
 -- what is known of a script that is written
 pub record Writable (t : Table) (block : List ℕ) (room : ℕ) : Type 0 where
-  pub within : Limited t
+  pub within : Within t
   pub short : packedSize t + length block ≤ limits .script
   pub fits : packedSize t + length block ≤ room
 

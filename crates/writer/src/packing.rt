@@ -7,7 +7,7 @@ ghost use mathlib.Core.List.{[], _∷_};
 ghost use Prim.Native.Nat.{_+_, _*_, _≤_};
 ghost use Rattle.bits.specs.Packing.{padded};
 ghost use Rattle.script.specs.Writer.{part, headerParts, numberParts, entryParts, tableParts};
-ghost use Rattle.roundtrip.specs.WrittenSound.{Limited};
+ghost use Rattle.table.specs.Sound.{Within};
 ghost use Rattle.writer.specs.Parts.{operandParts, importsParts, variablesParts, entriesParts};
 ghost use Rattle.writer.specs.Puts.{Puts};
 
@@ -124,7 +124,7 @@ fn put_entries(dst: &mut [u8], from: usize, t: Table) -> usize
 
 // Every field of the table, and zero bits up to a whole byte; how many bytes they take.
 pub(crate) fn pack(dst: &mut [u8], t: Table) -> usize
-    requires { ⌜ Limited t ⌝ }
+    requires { ⌜ Within t ⌝ }
     ensures { λ r. ⌜ Puts (now (dst .entry)) 0 (padded (tableParts t)) (now (dst .exit)) (8 * r) ⌝ }
 {
     let at = put_header(dst, t);

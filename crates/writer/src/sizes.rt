@@ -5,7 +5,7 @@ ghost use mathlib.Core.Path.{_≡_};
 ghost use Prim.Native.Nat.{_+_, _/_};
 ghost use Rattle.bits.specs.Holding.{widthOfAll};
 ghost use Rattle.script.specs.Writer.{entryParts, tableParts};
-ghost use Rattle.roundtrip.specs.WrittenSound.{Limited};
+ghost use Rattle.table.specs.Sound.{Within};
 
 // How many bits an entry takes: 5 bits of kind, then its operands.
 fn entry_width(e: Entry) -> usize
@@ -20,7 +20,7 @@ fn entry_width(e: Entry) -> usize
 
 // How many bytes the table takes: the header, a bit for each import, 49 bits for each variable, the entries, and zero bits up to a whole byte.
 pub(crate) fn packed_size(t: Table) -> usize
-    requires { ⌜ Limited t ⌝ }
+    requires { ⌜ Within t ⌝ }
     ensures { λ r. ⌜ r ≡ (widthOfAll (tableParts t) + 7) / 8 ⌝ }
 {
     let mut width = 32 + t.q + t.v * 49;

@@ -2,7 +2,7 @@
 use mathlib.Core.Path.{sym, _∙_}
 use native.Mathlib.Omega.{arith}
 use borrow.Author.Needs.{needs}
-use Rattle.bits.specs.Packing.{there-ends}
+use Rattle.bits.specs.Fields.{there-ends}
 use Rattle.entries.specs.Takings.{none-after, cut-after, there-after}
 use Rattle.entries.proofs.operand.Statement.{statement}
 use Rattle.entries.proofs.operand.Tie as tie

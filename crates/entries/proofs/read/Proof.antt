@@ -4,7 +4,7 @@ use native.Mathlib.Omega.{arith}
 use borrow.Author.Needs.{needs}
 use mir.Syntax.{w64}
 use mir.ValLaws.{toZ-ofZ}
-use Rattle.bits.specs.Packing.{there-ends}
+use Rattle.bits.specs.Fields.{there-ends}
 use Rattle.kinds.specs.Apart.{apartOf}
 use Rattle.entries.specs.Takings.{too-long, no-kind, past-kind, entry-made, entry-refused}
 use Rattle.entries.proofs.read.Statement.{statement}

@@ -1,5 +1,4 @@
 -- By the answer.
-use mathlib.Core.Path.{_∙_}
 use borrow.Author.Needs.{needs}
 use Rattle.parts.proofs.outcome.Statement.{statement}
 use Rattle.parts.proofs.outcome.Tie as tie

@@ -3,15 +3,15 @@ use borrow.Author.Needs.{needs}
 use mathlib.Core.Path.{sym, _∙_}
 use Rattle.table.specs.Tables.{initialOf}
 use Rattle.table.specs.Faults.{tableFault, four-first}
-use Rattle.sound.specs.Slots.{limits-kept}
+use Rattle.table.specs.Sound.{limits-within}
 use Rattle.sound.proofs.fault.Statement.{statement}
 use Rattle.sound.proofs.fault.Tie as tie
 
 variables-fault-requires : tie.Need-variables-fault-requires
-variables-fault-requires c κs = limits-kept _ (sym (c .before .before .before .limits-fault .ensures) ∙ c .before .enum-told .given .1) .variables
+variables-fault-requires c κs = limits-within _ (sym (c .before .before .before .limits-fault .ensures) ∙ c .before .enum-told .given .1) .0 .variables
 
 entries-fault-requires : tie.Need-entries-fault-requires
-entries-fault-requires c κs = limits-kept _ (sym (c .before .before .before .before .limits-fault .ensures) ∙ c .before .before .enum-told .given .1) .entries
+entries-fault-requires c κs = limits-within _ (sym (c .before .before .before .before .limits-fault .ensures) ∙ c .before .before .enum-told .given .1) .0 .entries
 
 returns : tie.Need-returns
 unfolding tableFault initialOf

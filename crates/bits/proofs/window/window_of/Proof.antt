@@ -38,9 +38,13 @@ cast-number c = omega (arith, c .shared-slice-known .given (c .before .before .b
 
 -- src/taking.rt:16:18
 add-number-2 : tie.Need-add-number-2 Inv-loop μ-loop
-add-number-2 c = record { fits = omega (arith,
+add-number-2 c = record {
+  fits = omega (
+    arith,
     window-lt (c .before .before .before .args .s .now) (c .before .before .before .args .first) (c .before .before .loop .i) (omega arith),
-    c .shared-slice-known .given (c .before .before .before .args .first + c .before .before .loop .i)) }
+    c .shared-slice-known .given (c .before .before .before .args .first + c .before .before .loop .i),
+  );
+}
 
 -- src/taking.rt:17:9
 add-i : tie.Need-add-i Inv-loop μ-loop
@@ -52,10 +56,12 @@ loop-less c = search needs
 
 -- src/taking.rt:15:5
 loop-again : tie.Need-loop-again Inv-loop μ-loop
-loop-again c = (omega arith,
-    rw (c .before .before .loop .inv .1)
-    (sym (window-more (c .before .before .before .args .s .now) (c .before .before .before .args .first) (c .before .before .loop .i)
-    (omega (arith, c .shared-slice-known .given (c .before .before .before .args .first + c .before .before .loop .i))))))
+loop-again c = (
+  omega arith,
+  rw (c .before .before .loop .inv .1)
+      (sym (window-more (c .before .before .before .args .s .now) (c .before .before .before .args .first) (c .before .before .loop .i)
+      (omega (arith, c .shared-slice-known .given (c .before .before .before .args .first + c .before .before .loop .i))))),
+)
 
 -- src/taking.rt:9:1
 returns : tie.Need-returns Inv-loop μ-loop

@@ -1,12 +1,11 @@
 -- One stage after another: a stage that is refused ends the reading, any other leads on.
 use mathlib.Core.List.{List}
-use mathlib.Core.Path.{_≡_, sym, _∙_, ap}
+use mathlib.Core.Path.{_≡_, sym, _∙_}
 use Prim.Native.Nat.{ℕ}
 use native.Mathlib.Omega.{arith}
 use borrow.Author.Needs.{needs}
-use Rattle.bits.specs.Reading.{Got, got, onward}
-use Rattle.table.specs.declared.Table.{Table}
-use Rattle.script.specs.Reader.{header, imports, variables, entries, packedTable}
+use Rattle.bits.specs.Reading.{got}
+use Rattle.script.specs.Reader.{header, imports, variables, entries}
 use Rattle.reader.specs.declared.Stage.{Stage}
 use Rattle.reader.specs.Packs.{afterHeader, afterImports, afterVariables, afterEntries, packed-whole, stage-stops, stage-goes, head-known, head-left, imports-known, imports-left, variables-known, variables-left, entries-known, entries-left}
 use Rattle.reader.proofs.packed.packed.Statement.{statement}

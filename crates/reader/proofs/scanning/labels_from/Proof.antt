@@ -8,10 +8,8 @@ use native.Mathlib.Omega.{arith}
 use borrow.Author.Needs.{needs}
 use lib.ListN.{length}
 use Rattle.refusals.specs.declared.Answer.{Answer}
-use Rattle.bits.specs.Reading.{got}
 use Rattle.table.specs.declared.Table.{Table}
 use Rattle.table.specs.Tables.{labelsBefore}
-use Rattle.script.specs.Reader.{packedTable}
 use Rattle.reader.specs.Scans.{shown}
 use Rattle.reader.specs.ScanLaws.{wholeScan, scan-no-labels, scan-whole, block-begins, table-within}
 use Rattle.reader.proofs.scanning.labels_from.Statement.{statement}

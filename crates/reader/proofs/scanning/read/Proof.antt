@@ -1,7 +1,6 @@
 -- The table of one pass.
 use mathlib.Core.Path.{ap}
 use borrow.Author.Needs.{needs}
-use Rattle.script.specs.declared.Script.{Script}
 use Rattle.reader.specs.declared.Scan.{Scan}
 use Rattle.reader.specs.Scans.{scanOf}
 use Rattle.reader.proofs.scanning.read.Statement.{statement}

@@ -1,9 +1,8 @@
 -- The length first, then the table, then the labels.
-use mathlib.Core.Path.{_≡_, sym, _∙_, ap}
+use mathlib.Core.Path.{sym, _∙_, ap}
 use native.Mathlib.Omega.{arith}
 use borrow.Author.Needs.{needs}
 use Rattle.bits.specs.Reading.{got}
-use Rattle.script.specs.Reader.{packedTable}
 use Rattle.reader.specs.Packs.{stage-refused, stage-accepted}
 use Rattle.reader.specs.ScanLaws.{scan-long, scan-no-table, block-begins}
 use Rattle.reader.proofs.scanning.scan_script.Statement.{statement}

@@ -1,17 +1,13 @@
--- What an accepted answer says of its parts.
-use mathlib.Core.Bool.{Bool, true, false, _&&_}
+-- What an accepted answer says of its parts, and back.
+use mathlib.Core.Bool.{Bool, true, false}
 use mathlib.Core.Logic.{⊎-elim}
 use mathlib.Core.Path.{_≡_, refl, sym, subst}
 use Prim.Native.Nat.{ℕ, zero, suc, _<_}
 use native.Mathlib.Nat.{not-suc-le-zero, eq-or-lt-of-le, le-of-suc-le-suc}
 use native.Mathlib.Omega.{arith}
 use Rattle.refusals.specs.declared.Refusal.{Refusal}
 use Rattle.refusals.specs.declared.Answer.{Answer}
 use Rattle.refusals.specs.Numbering.{unless, andThen, firstFault}
-
--- false is not true
-pub never : {X : Type 0} → false ≡ true → X
-never e = absurd (let z : _≡_ {A = ℕ} 0 1 = cc e in omega arith)
 
 -- a refusal is no acceptance
 pub not-accepted : {X : Type 0} (r : Refusal) → Answer.Refused r ≡ Answer.Accepted → X
@@ -40,11 +36,8 @@ none-at-fault (suc n) f e i h =
     (λ before. none-at-fault n f (accepted-first (firstFault n f) (f n) e) i before)
     (eq-or-lt-of-le (le-of-suc-le-suc h))
 
--- both of two tests
-pub both-first : (a b : Bool) → (a && b) ≡ true → a ≡ true
-both-first true b e = refl
-both-first false b e = e
-
-pub both-second : (a b : Bool) → (a && b) ≡ true → b ≡ true
-both-second true b e = e
-both-second false b e = never e
+-- and where there is none, there is no first
+pub no-fault : (n : ℕ) (f : ℕ → Answer) → ((j : ℕ) → j < n → f j ≡ Answer.Accepted) → firstFault n f ≡ Answer.Accepted
+unfolding firstFault
+no-fault zero f each = refl
+no-fault (suc n) f each = rw (no-fault n f (λ j h. each j (omega arith)), each n (omega arith))

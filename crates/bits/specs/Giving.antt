@@ -1,5 +1,4 @@
 -- What reading gives where nothing is refused: a law about each way to put a reading together.
-use mathlib.Core.Bool.{Bool, true, false}
 use mathlib.Core.List.{List}
 use mathlib.Core.Path.{_≡_, refl, subst₂}
 use Prim.Native.Nat.{ℕ, _+_, _*_}
@@ -10,9 +9,10 @@ use borrow.Author.Tests.{eqb-true}
 use Rattle.refusals.specs.declared.Refusal.{Refusal}
 use Rattle.refusals.specs.declared.Answer.{Answer}
 use Rattle.refusals.specs.Numbering.{unless}
+use Rattle.refusals.specs.Accepting.{unless-accepted}
 use Rattle.bits.specs.declared.Field.{Field}
 use Rattle.bits.specs.Bits.{fieldAt}
 use Rattle.bits.specs.Reading.{Got, got, refused, onward, judged, taken, field, ended}
 
 -- what is given, if anything is, has the property
 pub record Gives {A : Type 0} (m : Got A) (P : A → ℕ → Type 0) : Type 0 where
@@ -35,11 +35,6 @@ pub gives-onward : {A B : Type 0} {m : Got A} {f : A → ℕ → Got B} {P : B �
     → ((a : A) (next : ℕ) → m ≡ got a next → Gives (f a next) P) → Gives (onward m f) P
 gives-onward {m = got a next} h = h a next refl
 gives-onward {m = refused r} h = gives-refused
-
--- a test that was passed
-pub unless-true : (b : Bool) (r : Refusal) → unless b r ≡ Answer.Accepted → b ≡ true
-unless-true true r e = refl
-unless-true false r e = cc
 
 -- a value that is judged, and then another reading
 gives-judged : {A B : Type 0} (answer : Answer) (a : A) (next : ℕ) (f : A → ℕ → Got B) {P : B → ℕ → Type 0}
@@ -65,4 +60,4 @@ pub gives-ended : {B : Type 0} (s : List ℕ) (at : ℕ) (leftOver : Refusal) (f
     → (at ≡ 8 * length s → Gives (f 0 at) P) → Gives (onward (ended leftOver s at) f) P
 gives-ended s at leftOver f h =
     gives-judged (unless (eqb at (8 * length s)) leftOver) 0 at f
-    (λ good. h (eqb-true at (8 * length s) (unless-true (eqb at (8 * length s)) leftOver good)))
+    (λ good. h (eqb-true at (8 * length s) (unless-accepted (eqb at (8 * length s)) leftOver good)))
