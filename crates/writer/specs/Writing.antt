@@ -83,7 +83,7 @@ pub room-last : (t : Table) (block : List ℕ) (room : ℕ) → tableFault t ≡
 room-last t block room good fine = writer-fault t block room ∙ rw (good, fine) refl
 
 -- an answer that is the table's, and accepts: the table is within its limits
-pub within-told : {a : Answer} (t : Table) → a ≡ tableFault t → a ≡ Answer.Accepted → Limited t
+pub within-told : {a : Answer} (t : Table) → a ≡ tableFault t → a ≡ Answer.Accepted → Within t
 within-told t is accepted = sound-table t (sym is ∙ accepted) .within
 
 -- one that refuses is the writer's
