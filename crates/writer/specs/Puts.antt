@@ -1,19 +1,17 @@
 -- Fields put one after another from a bit on: the bytes then, and the bit after the fields.
 use mathlib.Core.List.{List, [], _∷_, _++_}
 use mathlib.Core.Path.{_≡_, refl, sym, _∙_, ap, ap₂, subst}
-use Prim.Native.Nat.{ℕ, _+_, _*_, _/_, _≤_}
+use Prim.Native.Nat.{ℕ, _+_, _*_, _/_}
 use native.Mathlib.Nat.{add-zero, zero-add}
 use native.Mathlib.Omega.{arith}
 use lib.ListN.{length}
-use Rattle.bits.specs.Bits.{Part, widest, paddingAt}
+use Rattle.bits.specs.Bits.{Part, paddingAt}
 use Rattle.bits.specs.Holding.{widthOfAll}
 use Rattle.bits.specs.Packing.{width-append, padded, width-padded}
 use Rattle.bits.specs.Putting.{putAt, putAll}
 use Rattle.bits.specs.Putall.{put-append, length-put-all}
 use Rattle.script.specs.Writer.{part, joined}
-use Rattle.kinds.specs.declared.Operand.{Operand}
-use Rattle.writer.specs.Parts.{operandParts, joined-more}
-use Rattle.writer.specs.Widths.{operand-width, operand-wide}
+use Rattle.writer.specs.Parts.{joined-more}
 
 -- what a function that puts fields says: the bytes as they were, the first bit, the fields, the bytes then, and the next bit
 pub record Puts (before : List ℕ) (at : ℕ) (ps : List Part) (after : List ℕ) (next : ℕ) : Type 0 where
@@ -67,10 +65,6 @@ puts-padded {s = s} {s'' = s''} {at = at} {end = end} {ps = ps} first zeros =
 pub field-ends : {s s' : List ℕ} {at w v next : ℕ} → Puts s at (part w v ∷ []) s' next → next ≡ at + w
 unfolding widthOfAll
 field-ends {w = w} put = omega (arith, put .ends)
-
--- where an operand ends, at the most
-pub operand-ends : {s s' : List ℕ} {at next : ℕ} (o : Operand) → Puts s at (operandParts o) s' next → next ≤ at + widest
-operand-ends o put = omega (arith, put .ends, operand-width o, operand-wide o)
 
 -- the bytes stay as many
 pub puts-length : {s s' : List ℕ} {at next : ℕ} {ps : List Part} → Puts s at ps s' next → length s' ≡ length s

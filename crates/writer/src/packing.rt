@@ -4,7 +4,7 @@ use table::Entry;
 use table::Table;
 use values::Number;
 ghost use mathlib.Core.List.{[], _∷_};
-ghost use Prim.Native.Nat.{_*_, _≤_};
+ghost use Prim.Native.Nat.{_+_, _*_, _≤_};
 ghost use Rattle.bits.specs.Packing.{padded};
 ghost use Rattle.script.specs.Writer.{part, headerParts, numberParts, entryParts, tableParts};
 ghost use Rattle.table.specs.Sound.{Within};
@@ -23,7 +23,8 @@ fn put_field(dst: &mut [u8], at: usize, w: usize, v: u64) -> usize
 // An operand's field, if there is one.
 fn put_operand(dst: &mut [u8], at: usize, o: Operand) -> usize
     requires { ⌜ at ≤ 65536 ⌝ }
-    ensures { λ r. ⌜ Puts (now (dst .entry)) at (operandParts o) (now (dst .exit)) r ⌝ }
+    ensures put { λ r. ⌜ Puts (now (dst .entry)) at (operandParts o) (now (dst .exit)) r ⌝ }
+    ensures near { λ r. ⌜ r ≤ at + 48 ⌝ }
 {
     let w = o.width();
     if w == 0 {

@@ -2,7 +2,7 @@
 use native.Mathlib.Omega.{arith}
 use borrow.Author.Needs.{needs}
 use Rattle.writer.specs.Parts.{entry-parts}
-use Rattle.writer.specs.Puts.{puts-next, puts-more, field-ends, operand-ends}
+use Rattle.writer.specs.Puts.{puts-next, puts-more, field-ends}
 use Rattle.writer.proofs.packing.put_entry.Statement.{statement}
 use Rattle.writer.proofs.packing.put_entry.Tie as tie
 
@@ -10,22 +10,10 @@ put-operand-requires : tie.Need-put-operand-requires
 put-operand-requires c κs = omega (arith, field-ends (c .before .before .before .put-field .ensures))
 
 put-operand-requires-2 : tie.Need-put-operand-requires-2
-put-operand-requires-2 c κs =
-    omega (
-      arith,
-      field-ends (c .before .before .before .before .before .before .before .put-field .ensures),
-      operand-ends (c .before .before .before .before .before .before .before .before .before .apart-of .result .first) (c .before .before .before .put-operand .ensures),
-    )
+put-operand-requires-2 c κs = omega (arith, field-ends (c .before .before .before .before .before .before .before .put-field .ensures))
 
 put-operand-requires-3 : tie.Need-put-operand-requires-3
-put-operand-requires-3 c κs =
-    let apart = c .before .before .before .before .before .before .before .before .before .before .before .before .before .apart-of .result in
-    omega (
-      arith,
-      field-ends (c .before .before .before .before .before .before .before .before .before .before .before .put-field .ensures),
-      operand-ends (apart .first) (c .before .before .before .before .before .before .before .put-operand .ensures),
-      operand-ends (apart .second) (c .before .before .before .put-operand2 .ensures),
-    )
+put-operand-requires-3 c κs = omega (arith, field-ends (c .before .before .before .before .before .before .before .before .before .before .before .put-field .ensures))
 
 returns : tie.Need-returns
 returns c =
