@@ -7,10 +7,14 @@ use table::Table;
 use table::VariableSlot;
 use values::Number;
 
-// A whole number: a byte that is 1 if it is negative, and eight bytes; m, or -1 less m.
+fn mirrored(z: i64) -> i64 {
+    -1 - z
+}
+
+// A whole number: a byte that is 1 if it is negative, and eight bytes that hold it, or -1 less it.
 fn whole(e: &[u8]) -> i64 {
     let z = (number(e, 10) % 9223372036854775808) as i64;
-    if byte(e, 9) == 1 { -1 - z } else { z }
+    if byte(e, 9) == 1 { mirrored(z) } else { z }
 }
 
 fn set_entry(t: Table, e: &[u8]) -> Table {

@@ -11,12 +11,16 @@ pub(crate) fn say_number(n: usize) {
     io::print_decimal(1, n as u64);
 }
 
+// A number of 48 bits; a negative one is its two's complement less 2^48.
 fn say_whole(z: i64) {
-    if z < 0 {
+    let v = bits::unsigned(z);
+    if 0 <= z {
+        io::print_decimal(1, v);
+        return;
+    }
+    if v <= 281474976710656 {
         say(b"-");
-        io::print_decimal(1, (-1 - z) as u64 + 1);
-    } else {
-        io::print_decimal(1, z as u64);
+        io::print_decimal(1, 281474976710656 - v);
     }
 }
 
@@ -89,14 +93,20 @@ fn say_variable(n: Number) {
     }
 }
 
+fn say_import(event: bool) {
+    if event {
+        say(b" event");
+    } else {
+        say(b" condition");
+    }
+}
+
 fn imports(t: Table) {
     say(b" | imports");
     let mut i: usize = 0;
-    while i < t.q && i < Table::IMPORTS {
-        if t.events[i] {
-            say(b" event");
-        } else {
-            say(b" condition");
+    while i < Table::IMPORTS {
+        if i < t.q {
+            say_import(t.events[i]);
         }
         i += 1;
     }
@@ -105,10 +115,12 @@ fn imports(t: Table) {
 fn variables(t: Table) {
     say(b" | variables");
     let mut x: usize = 0;
-    while x < t.v && x < Table::VARIABLES {
+    while x < Table::VARIABLES {
         let slot = t.variables[x];
         let number = slot.number;
-        say_variable(number);
+        if x < t.v {
+            say_variable(number);
+        }
         x += 1;
     }
 }
@@ -116,12 +128,14 @@ fn variables(t: Table) {
 fn entries(t: Table) {
     say(b" | entries");
     let mut k: usize = 0;
-    while k < t.n && k < Table::ENTRIES {
-        say(b" ");
+    while k < Table::ENTRIES {
         let slot = t.entries[k];
         let e = slot.entry;
-        say_entry(e);
-        say(b";");
+        if k < t.n {
+            say(b" ");
+            say_entry(e);
+            say(b";");
+        }
         k += 1;
     }
 }
