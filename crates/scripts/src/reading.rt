@@ -73,19 +73,23 @@ fn say_emptiness(t: Table) {
     }
 }
 
-// The labels of the entries that have one.
+// The label of an entry, if it has one.
+fn say_label(s: &[u8], k: usize) {
+    let mut number: u8 = 0;
+    let text = parts::label(s, k, &mut number);
+    if number == 0 {
+        say(b" ");
+        say_number(k);
+        say(b":");
+        say(text);
+    }
+}
+
 fn say_labels(s: &[u8], n: usize) {
     say(b" | labels");
     let mut k: usize = 0;
     while k < n {
-        let mut number: u8 = 0;
-        let text = parts::label(s, k, &mut number);
-        if number == 0 {
-            say(b" ");
-            say_number(k);
-            say(b":");
-            say(text);
-        }
+        say_label(s, k);
         k += 1;
     }
 }

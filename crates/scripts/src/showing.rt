@@ -125,6 +125,12 @@ fn variables(t: Table) {
     }
 }
 
+fn say_rule(e: Entry) {
+    say(b" ");
+    say_entry(e);
+    say(b";");
+}
+
 fn entries(t: Table) {
     say(b" | entries");
     let mut k: usize = 0;
@@ -132,9 +138,7 @@ fn entries(t: Table) {
         let slot = t.entries[k];
         let e = slot.entry;
         if k < t.n {
-            say(b" ");
-            say_entry(e);
-            say(b";");
+            say_rule(e);
         }
         k += 1;
     }
@@ -152,11 +156,15 @@ pub(crate) fn say_table(t: Table) {
     entries(t);
 }
 
+fn say_byte(b: u8) {
+    say(b" ");
+    io::print_hex(1, b as u64, 2);
+}
+
 pub(crate) fn say_bytes(s: &[u8]) {
     let mut i: usize = 0;
     while i < s.len() {
-        say(b" ");
-        io::print_hex(1, s[i] as u64, 2);
+        say_byte(s[i]);
         i += 1;
     }
 }

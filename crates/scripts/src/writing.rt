@@ -1,6 +1,7 @@
 // Cases of writing: a table and a block of labels, written into a destination whose every byte is 0xAA.
 use crate::editing::edited;
 use crate::input::after;
+use crate::input::byte;
 use crate::input::counted;
 use crate::input::word;
 use crate::reading::say_refused;
@@ -26,7 +27,7 @@ fn sum(s: &[u8]) -> u64 {
     let mut total: u64 = 0;
     let mut i: usize = 0;
     while i < s.len() {
-        total = (total * 31 + s[i] as u64) % 4294967296;
+        total = (total * 31 + byte(s, i) as u64) % 4294967296;
         i += 1;
     }
     total

@@ -1,3 +1,5 @@
+use Prim.Native.Nat.{_≤_, _<_, _-_, _^_}
+use lib.ListN.{length}
 use borrow.Author.Needs.{needs}
 use Rattle.scripts.proofs.editing.edited.Statement.{statement}
 use Rattle.scripts.proofs.editing.edited.Tie as tie
@@ -6,10 +8,10 @@ use Rattle.scripts.proofs.editing.edited.Lts as lts
 use Rattle.scripts.proofs.editing.edit.Reads as edit-reads
 
 abbrev Inv-loop : tie.InvT-loop
-Inv-loop edits table₀ at₀ table at = ?
+Inv-loop edits table₀ at₀ table at = at ≤ length edits
 
 abbrev μ-loop : tie.MeasureT-loop
-μ-loop edits table₀ at₀ table at = ?
+μ-loop edits table₀ at₀ table at = length edits - at
 
 -- src/editing.rt:77:5
 loop-holds : tie.Need-loop-holds Inv-loop μ-loop

@@ -1,3 +1,5 @@
+use Prim.Native.Nat.{_≤_, _<_, _-_, _^_}
+use lib.ListN.{length}
 use borrow.Author.Needs.{needs}
 use Rattle.scripts.proofs.reading.begins_with.Statement.{statement}
 use Rattle.scripts.proofs.reading.begins_with.Tie as tie
@@ -5,10 +7,10 @@ use Rattle.scripts.proofs.reading.begins_with.Reads as reads
 use Rattle.scripts.proofs.reading.begins_with.Lts as lts
 
 abbrev Inv-loop : tie.InvT-loop
-Inv-loop d s i₀ i = ?
+Inv-loop d s i₀ i = i ≤ length s
 
 abbrev μ-loop : tie.MeasureT-loop
-μ-loop d s i₀ i = ?
+μ-loop d s i₀ i = length s - i
 
 -- src/reading.rt:95:5
 loop-holds : tie.Need-loop-holds Inv-loop μ-loop

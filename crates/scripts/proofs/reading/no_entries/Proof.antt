@@ -1,3 +1,5 @@
+use Prim.Native.Nat.{_≤_, _<_, _-_, _^_}
+use lib.ListN.{length}
 use borrow.Author.Needs.{needs}
 use Rattle.scripts.proofs.reading.no_entries.Statement.{statement}
 use Rattle.scripts.proofs.reading.no_entries.Tie as tie
@@ -6,10 +8,10 @@ use Rattle.scripts.proofs.reading.no_entries.Lts as lts
 use Rattle.scripts.proofs.reading.unused_entry.Reads as unused-entry-reads
 
 abbrev Inv-loop : tie.InvT-loop
-Inv-loop t k₀ k = ?
+Inv-loop t k₀ k = k ≤ 128
 
 abbrev μ-loop : tie.MeasureT-loop
-μ-loop t k₀ k = ?
+μ-loop t k₀ k = 128 - k
 
 -- src/reading.rt:32:5
 loop-holds : tie.Need-loop-holds Inv-loop μ-loop

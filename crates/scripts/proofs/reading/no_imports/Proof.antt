@@ -1,3 +1,5 @@
+use Prim.Native.Nat.{_≤_, _<_, _-_, _^_}
+use lib.ListN.{length}
 use borrow.Author.Needs.{needs}
 use Rattle.scripts.proofs.reading.no_imports.Statement.{statement}
 use Rattle.scripts.proofs.reading.no_imports.Tie as tie
@@ -5,10 +7,10 @@ use Rattle.scripts.proofs.reading.no_imports.Reads as reads
 use Rattle.scripts.proofs.reading.no_imports.Lts as lts
 
 abbrev Inv-loop : tie.InvT-loop
-Inv-loop t i₀ i = ?
+Inv-loop t i₀ i = i ≤ 48
 
 abbrev μ-loop : tie.MeasureT-loop
-μ-loop t i₀ i = ?
+μ-loop t i₀ i = 48 - i
 
 -- src/reading.rt:45:5
 loop-holds : tie.Need-loop-holds Inv-loop μ-loop

@@ -1,3 +1,5 @@
+use Prim.Native.Nat.{_≤_, _<_, _-_, _^_}
+use lib.ListN.{length}
 use borrow.Author.Needs.{needs}
 use Rattle.scripts.proofs.reading.no_variables.Statement.{statement}
 use Rattle.scripts.proofs.reading.no_variables.Tie as tie
@@ -6,10 +8,10 @@ use Rattle.scripts.proofs.reading.no_variables.Lts as lts
 use Rattle.scripts.proofs.reading.undefined.Reads as undefined-reads
 
 abbrev Inv-loop : tie.InvT-loop
-Inv-loop t x₀ x = ?
+Inv-loop t x₀ x = x ≤ 32
 
 abbrev μ-loop : tie.MeasureT-loop
-μ-loop t x₀ x = ?
+μ-loop t x₀ x = 32 - x
 
 -- src/reading.rt:56:5
 loop-holds : tie.Need-loop-holds Inv-loop μ-loop

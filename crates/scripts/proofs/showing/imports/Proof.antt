@@ -1,3 +1,5 @@
+use Prim.Native.Nat.{_≤_, _<_, _-_, _^_}
+use lib.ListN.{length}
 use borrow.Author.Needs.{needs}
 use Rattle.scripts.proofs.showing.imports.Statement.{statement}
 use Rattle.scripts.proofs.showing.imports.Tie as tie
@@ -7,10 +9,10 @@ use Rattle.scripts.proofs.showing.say.Reads as say-reads
 use Rattle.scripts.proofs.showing.say_import.Reads as say-import-reads
 
 abbrev Inv-loop : tie.InvT-loop
-Inv-loop t i₀ i = ?
+Inv-loop t i₀ i = i ≤ 48
 
 abbrev μ-loop : tie.MeasureT-loop
-μ-loop t i₀ i = ?
+μ-loop t i₀ i = 48 - i
 
 -- src/showing.rt:105:9
 slice-aggregate-say : tie.Need-slice-aggregate-say Inv-loop μ-loop

@@ -1,3 +1,5 @@
+use Prim.Native.Nat.{_≤_, _<_, _-_, _^_}
+use lib.ListN.{length}
 use borrow.Author.Needs.{needs}
 use Rattle.scripts.proofs.showing.variables.Statement.{statement}
 use Rattle.scripts.proofs.showing.variables.Tie as tie
@@ -7,10 +9,10 @@ use Rattle.scripts.proofs.showing.say.Reads as say-reads
 use Rattle.scripts.proofs.showing.say_variable.Reads as say-variable-reads
 
 abbrev Inv-loop : tie.InvT-loop
-Inv-loop t x₀ x = ?
+Inv-loop t x₀ x = x ≤ 32
 
 abbrev μ-loop : tie.MeasureT-loop
-μ-loop t x₀ x = ?
+μ-loop t x₀ x = 32 - x
 
 -- src/showing.rt:116:9
 slice-aggregate-say : tie.Need-slice-aggregate-say Inv-loop μ-loop

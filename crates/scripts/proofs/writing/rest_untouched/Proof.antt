@@ -1,3 +1,5 @@
+use Prim.Native.Nat.{_≤_, _<_, _-_, _^_}
+use lib.ListN.{length}
 use borrow.Author.Needs.{needs}
 use Rattle.scripts.proofs.writing.rest_untouched.Statement.{statement}
 use Rattle.scripts.proofs.writing.rest_untouched.Tie as tie
@@ -5,10 +7,10 @@ use Rattle.scripts.proofs.writing.rest_untouched.Reads as reads
 use Rattle.scripts.proofs.writing.rest_untouched.Lts as lts
 
 abbrev Inv-loop : tie.InvT-loop
-Inv-loop d from i₀ i = ?
+Inv-loop d from i₀ i = Unit {0}
 
 abbrev μ-loop : tie.MeasureT-loop
-μ-loop d from i₀ i = ?
+μ-loop d from i₀ i = length d - i
 
 -- src/writing.rt:15:5
 loop-holds : tie.Need-loop-holds Inv-loop μ-loop
