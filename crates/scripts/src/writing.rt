@@ -76,7 +76,7 @@ pub(crate) fn write(s: &[u8], rest: &[u8]) {
     let t = edited(table, edits);
     let mut space: [u8; 4352] = [0xAA; 4352];
     if length <= 4352 {
-        into(t, block, &mut space[..length]);
+        into(t, block, &mut space[0..length]);
     } else {
         say(b"no such destination");
     }

@@ -1,3 +1,5 @@
+use Prim.Native.Nat.{_≤_, _<_, _-_, _^_}
+use lib.ListN.{length}
 use borrow.Author.Needs.{needs}
 use Rattle.scripts.proofs.writing.sum.Statement.{statement}
 use Rattle.scripts.proofs.writing.sum.Tie as tie
@@ -6,10 +8,10 @@ use Rattle.scripts.proofs.writing.sum.Lts as lts
 use Rattle.scripts.proofs.input.byte.Reads as byte-reads
 
 abbrev Inv-loop : tie.InvT-loop
-Inv-loop s total₀ i₀ total i = ?
+Inv-loop s total₀ i₀ total i = total < 2 ^ 32
 
 abbrev μ-loop : tie.MeasureT-loop
-μ-loop s total₀ i₀ total i = ?
+μ-loop s total₀ i₀ total i = length s - i
 
 -- src/writing.rt:29:5
 loop-holds : tie.Need-loop-holds Inv-loop μ-loop
