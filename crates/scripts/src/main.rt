@@ -5,9 +5,9 @@ mod reading;
 mod showing;
 mod writing;
 
+use crate::input::after;
 use crate::input::byte;
 use crate::input::counted;
-use crate::input::after;
 use crate::input::word;
 use crate::showing::say;
 ghost use mathlib.Core.Path.{_≡_};
