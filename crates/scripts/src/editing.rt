@@ -29,44 +29,48 @@ fn set_entry(t: Table, e: &[u8]) -> Table {
     table
 }
 
-fn set_variable(t: Table, slot: usize, n: Number) -> Table {
+fn set_variable(t: Table, e: &[u8]) -> Table {
     let mut table = t;
+    let slot = byte(e, 1) as usize;
     if slot < Table::VARIABLES {
-        table.variables[slot] = VariableSlot { number: n };
+        let number = if byte(e, 2) == 0 {
+            Number::Undefined
+        } else {
+            Number::Whole(whole(e))
+        };
+        table.variables[slot] = VariableSlot { number: number };
     }
     table
 }
 
-fn set_import(t: Table, slot: usize, event: bool) -> Table {
+fn set_import(t: Table, e: &[u8]) -> Table {
     let mut table = t;
+    let slot = byte(e, 1) as usize;
     if slot < Table::IMPORTS {
-        table.events[slot] = event;
+        table.events[slot] = byte(e, 2) == 1;
     }
     table
 }
 
-fn set_counts(t: Table, n: usize, q: usize, v: usize) -> Table {
+fn set_count(t: Table, what: u8, count: usize) -> Table {
     let mut table = t;
-    table.n = n;
-    table.q = q;
-    table.v = v;
+    match what {
+        b'n' => table.n = count,
+        b'q' => table.q = count,
+        b'v' => table.v = count,
+        _ => {}
+    }
     table
 }
 
 // One edit, 18 bytes: a letter, a slot, a kind, three operands of two bytes each, and a whole number.
 fn edit(t: Table, e: &[u8]) -> Table {
     let what = byte(e, 0);
-    let slot = byte(e, 1) as usize;
-    let count = number(e, 10) as usize;
     match what {
-        b'n' => set_counts(t, count, t.q, t.v),
-        b'q' => set_counts(t, t.n, count, t.v),
-        b'v' => set_counts(t, t.n, t.q, count),
         b'e' => set_entry(t, e),
-        b'u' => set_variable(t, slot, Number::Undefined),
-        b'w' => set_variable(t, slot, Number::Whole(whole(e))),
-        b'i' => set_import(t, slot, byte(e, 2) == 1),
-        _ => t,
+        b'x' => set_variable(t, e),
+        b'i' => set_import(t, e),
+        _ => set_count(t, what, number(e, 10) as usize),
     }
 }
 

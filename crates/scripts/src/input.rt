@@ -1,5 +1,5 @@
 // Numbers and parts of a case. Numbers have their most significant byte first; a part has its length, two bytes, before it.
-ghost use Prim.Native.Nat.{_≤_, _<_, _^_};
+ghost use Prim.Native.Nat.{_≤_};
 
 // A byte, 0 past the end.
 pub(crate) fn byte(s: &[u8], i: usize) -> u8 {

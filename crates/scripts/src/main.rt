@@ -8,6 +8,7 @@ mod writing;
 use crate::input::after;
 use crate::input::byte;
 use crate::input::counted;
+use crate::input::part;
 use crate::input::word;
 use crate::showing::say;
 ghost use mathlib.Core.Path.{_≡_};
@@ -23,7 +24,7 @@ fn room() -> [u8; 131072]
 // A case: a letter for what is asked, the name of the case, the script, and what the letter asks for besides.
 fn one(case: &[u8]) {
     let asked = byte(case, 0);
-    let rest = input::part(case, 1, case.len());
+    let rest = part(case, 1, case.len());
     let name = counted(rest);
     let rest = after(rest);
     let script = counted(rest);

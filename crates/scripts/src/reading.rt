@@ -2,6 +2,7 @@
 use crate::showing::say;
 use crate::showing::say_number;
 use crate::showing::say_table;
+use crate::writing::ROOM;
 use crate::writing::rest_untouched;
 use table::Entry;
 use table::Table;
@@ -73,6 +74,17 @@ fn say_emptiness(t: Table) {
     }
 }
 
+// The block of a refused script: its number, and an empty part.
+fn say_no_block(s: &[u8], refused: u8) {
+    let mut number: u8 = 0;
+    let block = parts::block(s, &mut number);
+    if number == refused && block.len() == 0 {
+        say(b", no block");
+    } else {
+        say(b", a block");
+    }
+}
+
 // The label of an entry, if it has one.
 fn say_label(s: &[u8], k: usize) {
     let mut number: u8 = 0;
@@ -120,7 +132,7 @@ fn same(s: &[u8], t: Table, block: &[u8], dst: &mut [u8]) -> bool {
 fn say_same(s: &[u8], t: Table) {
     let mut number: u8 = 0;
     let block = parts::block(s, &mut number);
-    let mut space: [u8; 4352] = [0xAA; 4352];
+    let mut space: [u8; ROOM] = [0xAA; ROOM];
     if same(s, t, block, &mut space) {
         say(b" | same");
     } else {
@@ -136,6 +148,7 @@ pub(crate) fn read(s: &[u8]) {
     if number != 0 {
         say_refused(number);
         say_emptiness(table);
+        say_no_block(s, number);
         return;
     }
     say_table(table);

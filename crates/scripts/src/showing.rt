@@ -29,57 +29,111 @@ fn operand(a: u16) {
     io::print_decimal(1, a as u64);
 }
 
-fn one(name: &[u8], a: u16) {
-    say(name);
+// Document 01's words for the kinds; an import is called by its sort.
+fn say_condition(kind: u8) {
+    match kind {
+        0 => say(b"condition"),
+        1 => say(b"defined"),
+        2 => say(b"pair"),
+        3 => say(b"not"),
+        4 => say(b"or"),
+        5 => say(b"and"),
+        6 => say(b"implies"),
+        7 => say(b"less"),
+        _ => say(b"equal"),
+    }
+}
+
+fn say_event(kind: u8) {
+    match kind {
+        9 => say(b"event"),
+        10 => say(b"start"),
+        11 => say(b"end"),
+        12 => say(b"both"),
+        13 => say(b"either"),
+        _ => say(b"when"),
+    }
+}
+
+fn say_numeric(kind: u8) {
+    match kind {
+        15 => say(b"constant"),
+        16 => say(b"variable"),
+        17 => say(b"sum"),
+        18 => say(b"difference"),
+        19 => say(b"clock"),
+        20 => say(b"value"),
+        _ => say(b"time"),
+    }
+}
+
+fn say_kind(kind: u8) {
+    match kind {
+        0..=8 => say_condition(kind),
+        9..=14 => say_event(kind),
+        15..=21 => say_numeric(kind),
+        22 => say(b"update"),
+        23 => say(b"alarm"),
+        _ => say(b"property"),
+    }
+}
+
+fn none(kind: u8) {
+    say_kind(kind);
+}
+
+fn one(kind: u8, a: u16) {
+    say_kind(kind);
     operand(a);
 }
 
-fn two(name: &[u8], a: u16, b: u16) {
-    say(name);
+fn two(kind: u8, a: u16, b: u16) {
+    say_kind(kind);
     operand(a);
     operand(b);
 }
 
-fn three(name: &[u8], a: u16, b: u16, c: u16) {
-    say(name);
+fn three(kind: u8, a: u16, b: u16, c: u16) {
+    say_kind(kind);
     operand(a);
     operand(b);
     operand(c);
 }
 
-fn constant(z: i64) {
-    say(b"constant ");
+fn constant(kind: u8, z: i64) {
+    say_kind(kind);
+    say(b" ");
     say_whole(z);
 }
 
-// An entry by document 01's word for its kind; imports are called by their sort.
+// An entry: the number of its kind and its operands.
 fn say_entry(e: Entry) {
     match e {
-        Entry::ImportedCondition(i) => one(b"condition", i),
-        Entry::Defined(a) => one(b"defined", a),
-        Entry::Pair(a, b) => two(b"pair", a, b),
-        Entry::Not(a) => one(b"not", a),
-        Entry::Or(a, b) => two(b"or", a, b),
-        Entry::And(a, b) => two(b"and", a, b),
-        Entry::Implies(a, b) => two(b"implies", a, b),
-        Entry::Less(a, b) => two(b"less", a, b),
-        Entry::Equal(a, b) => two(b"equal", a, b),
-        Entry::ImportedEvent(i) => one(b"event", i),
-        Entry::Start(a) => one(b"start", a),
-        Entry::End(a) => one(b"end", a),
-        Entry::Both(a, b) => two(b"both", a, b),
-        Entry::Either(a, b) => two(b"either", a, b),
-        Entry::When(a, b) => two(b"when", a, b),
-        Entry::Constant(z) => constant(z),
-        Entry::Variable(x) => one(b"variable", x),
-        Entry::Sum(a, b) => two(b"sum", a, b),
-        Entry::Difference(a, b) => two(b"difference", a, b),
-        Entry::Clock => say(b"clock"),
-        Entry::Value(i) => one(b"value", i),
-        Entry::Time(a) => one(b"time", a),
-        Entry::Update(a, x, b) => three(b"update", a, x, b),
-        Entry::Alarm(a) => one(b"alarm", a),
-        Entry::Property(a) => one(b"property", a),
+        Entry::ImportedCondition(i) => one(0, i),
+        Entry::Defined(a) => one(1, a),
+        Entry::Pair(a, b) => two(2, a, b),
+        Entry::Not(a) => one(3, a),
+        Entry::Or(a, b) => two(4, a, b),
+        Entry::And(a, b) => two(5, a, b),
+        Entry::Implies(a, b) => two(6, a, b),
+        Entry::Less(a, b) => two(7, a, b),
+        Entry::Equal(a, b) => two(8, a, b),
+        Entry::ImportedEvent(i) => one(9, i),
+        Entry::Start(a) => one(10, a),
+        Entry::End(a) => one(11, a),
+        Entry::Both(a, b) => two(12, a, b),
+        Entry::Either(a, b) => two(13, a, b),
+        Entry::When(a, b) => two(14, a, b),
+        Entry::Constant(z) => constant(15, z),
+        Entry::Variable(x) => one(16, x),
+        Entry::Sum(a, b) => two(17, a, b),
+        Entry::Difference(a, b) => two(18, a, b),
+        Entry::Clock => none(19),
+        Entry::Value(i) => one(20, i),
+        Entry::Time(a) => one(21, a),
+        Entry::Update(a, x, b) => three(22, a, x, b),
+        Entry::Alarm(a) => one(23, a),
+        Entry::Property(a) => one(24, a),
     }
 }
 

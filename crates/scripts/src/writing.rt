@@ -10,6 +10,9 @@ use crate::showing::say_bytes;
 use crate::showing::say_number;
 use table::Table;
 
+// The longest destination.
+pub(crate) const ROOM: usize = 4352;
+
 // Whether every byte from one on is still 0xAA.
 pub(crate) fn rest_untouched(d: &[u8], from: usize) -> bool {
     let mut i = from;
@@ -74,8 +77,8 @@ pub(crate) fn write(s: &[u8], rest: &[u8]) {
     let script = reader::read(s);
     let table = script.table;
     let t = edited(table, edits);
-    let mut space: [u8; 4352] = [0xAA; 4352];
-    if length <= 4352 {
+    let mut space: [u8; ROOM] = [0xAA; ROOM];
+    if length <= ROOM {
         into(t, block, &mut space[0..length]);
     } else {
         say(b"no such destination");
