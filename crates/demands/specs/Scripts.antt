@@ -100,3 +100,8 @@ refused-as-defined s r e = by (scriptOf s) e
     by : (m : Got Table) → scriptReply m .answer ≡ Answer.Refused r → (m ≡ refused r) × (scriptReply m .table ≡ emptyTable)
     by (got t end) h = let z : _≡_ {A = ℕ} 0 1 = cc in absurd (omega arith)
     by (refused q) h = (cc, refl)
+
+-- and every refusal of the definition is given
+pub refused-where-defined : (s : List ℕ) (r : Refusal) → scriptOf s ≡ refused r → readScript s ≡ record { answer = Answer.Refused r; table = emptyTable }
+unfolding readScript
+refused-where-defined s r e = ap scriptReply e
