@@ -45,6 +45,10 @@ pub record TablesReturn (build : Build) : Type 0 where
       → (build .read (take size (build .written t block destination)) ≡ readAs t)
       × (build .block (take size (build .written t block destination)) ≡ block)
 
+-- "first fault from front to back": what is read of any bytes is what the definition reads, refusals too
+pub record ReadsAsDefined (build : Build) : Type 0 where
+  pub same : (s : List ℕ) → build .read s ≡ readScript s
+
 -- the document's reader and writer; proofs/Ours.antt shows that our functions' contracts say just this
 abbrev pub ours : Build
 ours = record { read = readScript; block = blockOf; write = writeScript; written = writeBytes }
@@ -61,6 +65,9 @@ reply-accepted Answer.Accepted script destination size e =
     let all : size ≡ length script = sym (ap (λ (x : Written). x .size) e) in
     (refl, ap (λ (n : ℕ). take n (script ++ drop (length script) destination)) all ∙ take-append-seam script (drop (length script) destination))
 reply-accepted (Answer.Refused r) script destination size e = let answer = ap (λ (x : Written). x .answer) e in let z : _≡_ {A = ℕ} 0 1 = cc in absurd (omega arith)
+
+pub ours-as-defined : ReadsAsDefined ours
+ours-as-defined = record { same = λ s. refl }
 
 -- (b) a table and a block that the writer accepts, read again, are the same table and labels
 pub our-tables-return : TablesReturn ours
