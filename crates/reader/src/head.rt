@@ -24,23 +24,26 @@ pub(crate) fn refused(r: Refusal) -> Stage
     }
 }
 
-// "Import count q, 6 bits, 0 to 48. Variable count v, 6 bits, 0 to 32. Four zero bits.", from bit 16 on.
-fn counts(s: &[u8], n: usize) -> Stage
-    ensures { λ r. ⌜ reached r ≡ counts n (now (s .entry)) 16 ⌝ }
+// "Import count q, 6 bits, 0 to 48. Variable count v, 6 bits, 0 to 32. Four zero bits."
+fn counts(s: &[u8], at: usize, n: usize) -> Stage
+    requires { ⌜ at ≤ 65536 ⌝ }
+    ensures { λ r. ⌜ reached r ≡ counts n (now (s .entry)) at ⌝ }
 {
-    let Field::There(q) = bits::field_at(s, 16, 6) else {
+    let Field::There(q) = bits::field_at(s, at, 6) else {
         return refused(Refusal::Cut);
     };
     if Table::IMPORTS < q as usize {
         return refused(Refusal::ImportCount);
     }
-    let Field::There(v) = bits::field_at(s, 22, 6) else {
+    let second = at + 6;
+    let Field::There(v) = bits::field_at(s, second, 6) else {
         return refused(Refusal::Cut);
     };
     if Table::VARIABLES < v as usize {
         return refused(Refusal::VariableCount);
     }
-    let Field::There(zeros) = bits::field_at(s, 28, 4) else {
+    let third = second + 6;
+    let Field::There(zeros) = bits::field_at(s, third, 4) else {
         return refused(Refusal::Cut);
     };
     if zeros != 0 {
@@ -52,7 +55,7 @@ fn counts(s: &[u8], n: usize) -> Stage
     t.v = v as usize;
     Stage {
         answer: Answer::Accepted,
-        at: 32,
+        at: third + 4,
         table: t,
     }
 }
@@ -73,7 +76,7 @@ pub(crate) fn header(s: &[u8]) -> Stage
     if n < 1 || Table::ENTRIES < n as usize {
         return refused(Refusal::EntryCount);
     }
-    counts(s, n as usize)
+    counts(s, 16, n as usize)
 }
 
 // "q bits, one for each import: 1 an event, 0 a condition."

@@ -4,7 +4,7 @@ use borrow.Author.Tests.{lt-leb, le-leb, ne-eqb}
 use mathlib.Core.Bool.{true}
 use mathlib.Core.List.{List}
 use mathlib.Core.Path.{_≡_, sym, _∙_, ap}
-use Prim.Native.Nat.{ℕ}
+use Prim.Native.Nat.{ℕ, _+_}
 use native.Mathlib.Omega.{arith}
 use lib.Dec.{leb}
 use Rattle.bits.specs.declared.Field.{Field}
@@ -22,6 +22,16 @@ bytes2 c = bytes (c .before .before .before .before .before)
 abbrev bytes3 : tie.After-known-told3 → List ℕ
 bytes3 c = bytes2 (c .before .before .before .before .before)
 
+-- the bit at which the counts begin
+abbrev from : tie.After-known-told → ℕ
+from c = c .before .before .before .before .before .args .at
+
+abbrev from2 : tie.After-known-told2 → ℕ
+from2 c = from (c .before .before .before .before .before)
+
+abbrev from3 : tie.After-known-told3 → ℕ
+from3 c = from2 (c .before .before .before .before .before)
+
 -- the import count and the variable count
 abbrev q : tie.After-known-told → ℕ
 q c = c .before .q .given .0 .0
@@ -30,13 +40,13 @@ abbrev v : tie.After-known-told2 → ℕ
 v c = c .before .v .given .0 .0
 
 -- each field, as it was taken
-q-is : (c : tie.After-known-told) → fieldAt (bytes c) 16 6 ≡ Field.There (q c)
+q-is : (c : tie.After-known-told) → fieldAt (bytes c) (from c) 6 ≡ Field.There (q c)
 q-is c = sym (c .before .before .before .field-at .ensures) ∙ c .before .q .given .1
 
-v-is : (c : tie.After-known-told2) → fieldAt (bytes2 c) 22 6 ≡ Field.There (v c)
+v-is : (c : tie.After-known-told2) → fieldAt (bytes2 c) (from2 c + 6) 6 ≡ Field.There (v c)
 v-is c = sym (c .before .before .before .field-at2 .ensures) ∙ c .before .v .given .1
 
-zeros-are : (c : tie.After-known-told3) → fieldAt (bytes3 c) 28 4 ≡ Field.There (c .before .zeros .given .0 .0)
+zeros-are : (c : tie.After-known-told3) → fieldAt (bytes3 c) (from3 c + 6 + 6) 4 ≡ Field.There (c .before .zeros .given .0 .0)
 zeros-are c = sym (c .before .before .before .field-at3 .ensures) ∙ c .before .zeros .given .1
 
 -- and as it was judged
@@ -97,6 +107,7 @@ counts-spec =
     returns
     (λ c κs. search needs)
     returns-2
+    (λ c. search needs)
     (λ c κs. search needs)
     (λ c. search needs)
     (λ c. search needs)
@@ -104,6 +115,7 @@ counts-spec =
     returns-3
     (λ c κs. search needs)
     returns-4
+    (λ c. search needs)
     (λ c κs. search needs)
     (λ c. search needs)
     (λ c. search needs)
@@ -112,4 +124,5 @@ counts-spec =
     (λ c κs. search needs)
     returns-6
     (λ c κs. search needs)
+    (λ c. search needs)
     returns-7)
