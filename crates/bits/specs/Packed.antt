@@ -11,6 +11,7 @@ use Rattle.bits.specs.Twos.{signed, unsigned, theTwos}
 abbrev headBytes : List ℕ
 headBytes = 0x01 ∷ 0x04 ∷ 0x04 ∷ 0x00 ∷ []
 
+-- the same as fields
 abbrev headParts : List Part
 headParts =
     record { wide = 8; is = 1 }

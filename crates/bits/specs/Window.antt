@@ -115,6 +115,7 @@ module _ (s : List ℕ) (first : ℕ) (byte : ℕ → ℕ) where
 -- ---- the window's bytes stored again
 
 module _ (s : List ℕ) (bytes : Bytes s) (first u count w t v : ℕ) (parts : 8 * count ≡ u + w + t) (fits : first + count ≤ length s) where
+  -- the bits once the field is put, and the bytes of the window that holds it
   abbrev new : ℕ → ℕ
   new = bitPut s (8 * first + u) w v
 

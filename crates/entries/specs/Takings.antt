@@ -52,10 +52,11 @@ module _ (sorts : List ℕ) (events : List Bool) (q v k : ℕ) (o : Operand) (s 
 abbrev madeBy : ℕ → ℕ → ℕ → ℕ → Entry
 madeBy kind x y z = madeOf kind (x % 65536) (y % 65536) (z % 65536) (signed x)
 
--- three readings, one after another, and what is made of them
+-- what is made of three numbers
 abbrev Made : Type 0
 Made = ℕ → ℕ → ℕ → Entry
 
+-- three operands in turn, and the entry that they make
 abbrev inTurn : Got ℕ → (ℕ → Got ℕ) → (ℕ → Got ℕ) → Made → Got Entry
 inTurn a f g make = onward a (λ x n. onward (f n) (λ y m. onward (g m) (λ z l. got (make x y z) l)))
 

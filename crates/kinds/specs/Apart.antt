@@ -14,13 +14,15 @@ use Rattle.script.specs.Operands.{widthOf, fieldOf}
 use Rattle.kinds.specs.declared.Operand.{Operand}
 use Rattle.kinds.specs.declared.Apart.{Apart}
 
--- a kind with one operand, with none, and with two entries
+-- a kind with one operand
 abbrev pub oneOperand : ℕ → Operand → Apart
 oneOperand kind o = record { kind = kind; first = o; second = Operand.Nothing; third = Operand.Nothing }
 
+-- a kind with no operand
 abbrev pub noOperand : ℕ → Apart
 noOperand kind = oneOperand kind Operand.Nothing
 
+-- a kind with two entries for operands
 abbrev pub twoEntries : ℕ → Sort → ℕ → Sort → ℕ → Apart
 twoEntries kind s a t b = record { kind = kind; first = Operand.Entry s a; second = Operand.Entry t b; third = Operand.Nothing }
 

@@ -28,10 +28,11 @@ use Rattle.replies.specs.Plain.{never, both-true}
 use Rattle.roundtrip.specs.WrittenSlots.{filled, filled-next, filled-same, filled-all}
 use Rattle.table.specs.Sound.{Within}
 
--- slots that nothing stands in
+-- an unused entry slot
 abbrev pub noEntry : EntrySlot
 noEntry = record { entry = Entry.Constant (pos 0) }
 
+-- and an unused variable slot
 abbrev pub noNumber : VariableSlot
 noNumber = record { number = Number.Undefined }
 

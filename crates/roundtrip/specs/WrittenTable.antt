@@ -43,10 +43,11 @@ unfolding operandsFault
 so-far-operands t shape within x k h [] = refl
 so-far-operands t shape within x k h (o ∷ os) = rw (so-far-operand t shape within x k h o, so-far-operands t shape within x k h os)
 
--- the fields of a variable, and of an entry
+-- the fields of a variable
 abbrev startParts : Table → ℕ → List Part
 startParts t x = numberParts (initialOf t x)
 
+-- the fields of an entry
 abbrev slotParts : Table → ℕ → List Part
 slotParts t k = entryParts (entryAt t k)
 

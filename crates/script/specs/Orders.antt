@@ -53,6 +53,7 @@ recordedScript = 0x01 ∷ 0x04 ∷ 0x04 ∷ 0x00 ∷ 0x00 ∷ 0x01 ∷ 0x80 ∷ 
 abbrev pub recordedTable : Table
 recordedTable = withEntry (withEntry (withEntry (withEntry (counted 4 1 0) 0 (ImportedCondition 0)) 1 (Not 0)) 2 (Start 1)) 3 (Alarm 2)
 
+-- its label, as stored
 abbrev pub recordedBlock : List ℕ
 recordedBlock = 4 ∷ 0x4C ∷ 0x45 ∷ 0x41 ∷ 0x50 ∷ []
 
