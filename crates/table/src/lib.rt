@@ -1,6 +1,6 @@
 // The table of rules in memory: entries of twenty-five kinds, imports, variables, and their limits.
 ghost use mathlib.Core.Path.{_≡_};
-ghost use Rattle.table.specs.Tables.{emptyTable};
+ghost use Rattle.table.specs.Tables.{Shaped, emptyTable};
 use values::Number;
 
 // The sort of an entry: condition, event, number, or none.
@@ -110,4 +110,9 @@ impl Table {
             }; Table::ENTRIES],
         }
     }
+
+    // Every value of this type has its slots: 128 for entries, 48 for imports, 32 for variables.
+    pub fn shaped(self)
+        ensures { λ r. ⌜ Shaped self ⌝ }
+    {}
 }
