@@ -2,7 +2,7 @@
 use table::Entry;
 use table::Table;
 ghost use mathlib.Core.Path.{_≡_};
-ghost use Prim.Native.Nat.{_≤_, min};
+ghost use Prim.Native.Nat.{_≤_};
 ghost use Rattle.table.specs.Kinds.{labelled};
 ghost use Rattle.table.specs.Tables.{labelsBefore};
 
@@ -34,10 +34,11 @@ fn counted(t: Table, k: usize) -> usize
     count
 }
 
-// How many of the entries before k have a label; there are 128 slots.
+// How many of the entries before k have a label; past the 128 slots there is none.
 pub fn before(t: Table, k: usize) -> usize
-    ensures { λ r. ⌜ r ≡ labelsBefore t (min k 128) ⌝ }
+    ensures { λ r. ⌜ r ≡ labelsBefore t k ⌝ }
 {
+    t.shaped();
     if k < 128 {
         counted(t, k)
     } else {

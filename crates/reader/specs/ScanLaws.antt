@@ -126,7 +126,7 @@ module _ (s : List ℕ) (t : Table) (at : ℕ) (room : length s ≤ limits .scri
   scan-read k end whole = rw (whole, there)
 
   -- the label that was wanted is the one that was found among all
-  label-found : (k count wanted c end : ℕ) (named : Bool) → count ≡ labelsBefore t (t .n) → (k < t .n → wanted ≡ labelsBefore t k)
+  label-found : (k count wanted c end : ℕ) (named : Bool) → count ≡ labelsBefore t (t .n) → wanted ≡ labelsBefore t k
       → named ≡ (ltb k (t .n) && labelled (entryAt t k)) → labelsToEnd count s at ≡ got c end
       → cond named (labelReply (labelAfter (labelsBefore t k) s at)) (noLabel Refusal.NoEntry) ≡ shown named (labelAmong count wanted s at .span)
   unfolding labelAmong labelsToEnd
@@ -134,14 +134,14 @@ module _ (s : List ℕ) (t : Table) (at : ℕ) (room : length s ≤ limits .scri
   label-found k count wanted c end true all one named e =
       let both = both-true (ltb k (t .n)) (labelled (entryAt t k)) (sym named) in
       let early = ltb-true k (t .n) (both .0) in
-      let counts : wanted < count = omega (arith, label-counts t k (t .n) early (both .1), all, one early) in
+      let counts : wanted < count = omega (arith, label-counts t k (t .n) early (both .1), all, one) in
       let read = labels-read s (labels count s at) _ c end e in
-      ap (λ (n : ℕ). labelReply (labelAfter n s at)) (sym (one early))
+      ap (λ (n : ℕ). labelReply (labelAfter n s at)) (sym one)
       ∙ label-there s (read .0) (read .1) wanted count at counts (read .2)
       ∙ rw (e, lt-ltb wanted count counts) refl
 
   -- all of it
-  pub scan-whole : (k count wanted : ℕ) (l : Label) → count ≡ labelsBefore t (t .n) → (k < t .n → wanted ≡ labelsBefore t k)
+  pub scan-whole : (k count wanted : ℕ) (l : Label) → count ≡ labelsBefore t (t .n) → wanted ≡ labelsBefore t k
       → l ≡ labelAmong count wanted s at → l .answer ≡ Answer.Accepted
       → scanOf s k ≡ wholeScan (shown (ltb k (t .n) && labelled (entryAt t k)) (l .span))
   unfolding labelAmong

@@ -13,12 +13,10 @@ ghost use Prim.Native.Nat.{_+_, _≤_};
 ghost use lib.ListN.{length};
 ghost use lib.Seq.{paste};
 ghost use Rattle.script.specs.Writer.{scriptBytes, blockFault, writerFault, writeScript, writeBytes};
-ghost use Rattle.table.specs.Sound.{Within};
 ghost use Rattle.writer.specs.Writing.{roomFault, Writable, filledWith};
 
 // "the block (2, 10, 11)"
 fn block_fault(t: Table, block: &[u8]) -> Answer
-    requires { ⌜ Within t ⌝ }
     ensures { λ r. ⌜ r ≡ blockFault t (now (block .entry)) ⌝ }
 {
     let count = labels::before(t, t.n);

@@ -1,9 +1,7 @@
 -- `writer::block_fault` meets its contract: there are as many labels as entries with a label, and their answer does not depend on the wanted one.
 use mathlib.Core.Path.{_∙_, ap}
 use Prim.Native.Nat.{ℕ}
-use native.Mathlib.Nat.{min-eq-left}
 use borrow.Author.Needs.{needs}
-use Rattle.table.specs.Tables.{labelsBefore}
 use Rattle.script.specs.declared.Label.{Label}
 use Rattle.labels.specs.Among.{labelAmong}
 use Rattle.writer.specs.Writing.{block-answer}
@@ -14,7 +12,7 @@ returns : tie.Need-returns
 returns c =
     let start = c .before .before .before in
     let count = c .before .before2 .result in
-    let all = c .before .before2 .ensures ∙ ap (labelsBefore (start .args .t)) (min-eq-left (start .pre .entries)) in
+    let all = c .before .before2 .ensures in
     ap (λ (l : Label). l .answer) (c .read .ensures)
     ∙ ap (λ (n : ℕ). labelAmong n count (start .args .block .now) 0 .answer) all
     ∙ block-answer (start .args .t) (start .args .block .now) count

@@ -5,9 +5,6 @@ use Rattle.writer.specs.Writing.{packed-small, within-told, table-told, 
 use Rattle.writer.proofs.fault.Statement.{statement}
 use Rattle.writer.proofs.fault.Tie as tie
 
-block-fault-requires : tie.Need-block-fault-requires
-block-fault-requires c κs = search within-told
-
 packed-size-requires : tie.Need-packed-size-requires
 packed-size-requires c κs = search within-told
 
@@ -30,7 +27,7 @@ fault-spec =
     (λ c κs. search needs)
     (λ c. search needs)
     (λ c. search needs)
-    block-fault-requires
+    (λ c κs. search needs)
     (λ c. search needs)
     (λ c. search needs)
     packed-size-requires

@@ -2,8 +2,7 @@
 use mathlib.Core.Bool.{Bool}
 use mathlib.Core.List.{List}
 use mathlib.Core.Path.{_≡_, sym, _∙_, ap}
-use Prim.Native.Nat.{ℕ, _-_, _*_, _/_, _<_, _≤_}
-use native.Mathlib.Nat.{min-eq-left}
+use Prim.Native.Nat.{ℕ, _-_, _*_, _/_, _≤_}
 use native.Mathlib.Omega.{arith}
 use borrow.Author.Needs.{needs}
 use lib.ListN.{length}
@@ -28,12 +27,9 @@ begins p = p .before .before .before .before .args .from
 few : (p : tie.After-read) → table p .n ≤ 128
 few p = table-within (bytes p) (table p) (8 * begins p) (p .before .before .before .before .pre .1)
 
--- all labels are counted, and those before the wanted one
+-- all labels are counted
 all : (p : tie.After-read) → p .before .before .before2 .result ≡ labelsBefore (table p) (table p .n)
-all p = p .before .before .before2 .ensures ∙ ap (labelsBefore (table p)) (min-eq-left (few p))
-
-one : (p : tie.After-read) → let k = p .before .before .before .before .args .k in k < table p .n → p .before .before3 .result ≡ labelsBefore (table p) k
-one p h = p .before .before3 .ensures ∙ ap (labelsBefore (table p)) (min-eq-left (omega (arith, few p)))
+all p = p .before .before .before2 .ensures
 
 has-label-requires : tie.Need-has-label-requires
 has-label-requires c κs = few (c .before .before .before)
@@ -59,7 +55,7 @@ returns-2 c =
     ap (λ (n : ℕ). record { answer = Answer.Accepted; table = table p; block = record { from = n; size = length (bytes p) - n }; label = c .shown-label .result }) {x = from} {y = 8 * from / 8} (omega arith)
     ∙ ap (wholeScan (bytes p) (table p) (8 * from) (start .pre .0) (start .pre .1)) (c .shown-label .ensures ∙ ap (λ (named : Bool). shown named (p .read .result .span)) (c .before .has-label .ensures))
     ∙ sym (scan-whole (bytes p) (table p) (8 * from) (start .pre .0) (start .pre .1) (start .args .k) (p .before .before .before2 .result) (p .before .before3 .result)
-    (p .read .result) (all p) (one p) (p .read .ensures) (c .before .before .before .enum-told .given .1))
+    (p .read .result) (all p) (p .before .before3 .ensures) (p .read .ensures) (c .before .before .before .enum-told .given .1))
 
 pub labels-from-spec : {M : Type 1} → statement M
 labels-from-spec =
