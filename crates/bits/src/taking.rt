@@ -35,9 +35,8 @@ pub fn field_at(s: &[u8], at: usize, w: usize) -> Field
 pub fn byte_at(s: &[u8], i: usize) -> Field
     ensures { λ r. ⌜ r ≡ fieldAt (now (s .entry)) (8 * i) 8 ⌝ }
 {
-    if i < s.len() {
-        Field::There(s[i] as u64)
-    } else {
-        Field::Missing
+    if s.len() <= i {
+        return Field::Missing;
     }
+    Field::There(s[i] as u64)
 }
