@@ -66,9 +66,6 @@ reply-accepted Answer.Accepted script destination size e =
     (refl, ap (λ (n : ℕ). take n (script ++ drop (length script) destination)) all ∙ take-append-seam script (drop (length script) destination))
 reply-accepted (Answer.Refused r) script destination size e = let answer = ap (λ (x : Written). x .answer) e in let z : _≡_ {A = ℕ} 0 1 = cc in absurd (omega arith)
 
-pub ours-as-defined : ReadsAsDefined ours
-ours-as-defined = record { same = λ s. refl }
-
 -- (b) a table and a block that the writer accepts, read again, are the same table and labels
 pub our-tables-return : TablesReturn ours
 unfolding writeScript writeBytes
@@ -99,7 +96,11 @@ one-script s u s-bytes u-bytes t first second labels =
     let b = reply-got (scriptOf u) t second in
     sym (script-again s s-bytes t (a .0) (a .1)) ∙ ap (scriptBytes t) labels ∙ script-again u u-bytes t (b .0) (b .1)
 
--- (c) the reader's refusals are those of the definition, with the empty table
+-- (c) what is read of any bytes is what the definition reads
+pub ours-as-defined : ReadsAsDefined ours
+ours-as-defined = record { same = λ s. refl }
+
+-- its refusals are those of the definition, with the empty table
 pub refused-as-defined : (s : List ℕ) (r : Refusal) → readScript s .answer ≡ Answer.Refused r → (scriptOf s ≡ refused r) × (readScript s .table ≡ emptyTable)
 unfolding readScript
 refused-as-defined s r e = by (scriptOf s) e
