@@ -73,7 +73,7 @@ our-tables-return =
     record {
       same = λ t shaped block destination size wrote.
           let done = reply-accepted (writerFault t block (length destination)) (scriptBytes t block) destination size wrote in
-          (rw (done .1) (table-again t shaped block (length destination) (done .0)), rw (done .1) (labels-again t shaped block (length destination) (done .0)));
+          (ap (ours .read) (done .1) ∙ table-again t shaped block (length destination) (done .0), ap (ours .block) (done .1) ∙ labels-again t shaped block (length destination) (done .0));
     }
 
 -- (a) a script that the reader accepts, written again from its table and its labels, gives the same bytes
