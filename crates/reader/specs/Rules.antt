@@ -6,8 +6,7 @@ use Prim.Native.Nat.{ℕ, suc, _+_, _-_, _<_, _≤_}
 use native.Mathlib.Nat.{ne-of-lt, eq-or-lt-of-le, le-of-suc-le-suc, sub-eq-zero-of-le}
 use native.Mathlib.Numerals.{add-one}
 use native.Mathlib.Omega.{arith}
-use borrow.Author.Tests.{le-ltb}
-use lib.ListN.{length, getD, set, length-set, replicate, length-replicate}
+use lib.ListN.{length, set, length-set, replicate, length-replicate}
 use lib.Seq.{getD-set-same, getD-set-other}
 use Rattle.refusals.specs.declared.Refusal.{Refusal}
 use Rattle.bits.specs.Reading.{Got, got, refused, onward}
@@ -20,9 +19,10 @@ use Rattle.table.specs.Tables.{entryAt}
 use Rattle.script.specs.Reader.{withEntry, entry, entries}
 use Rattle.kinds.specs.Apart.{apartOf, sortOfKind}
 use Rattle.kinds.specs.Laws.{sort-of-kind}
+use Rattle.sound.specs.Laws.{Sorts}
 use Rattle.entries.specs.declared.Entered.{Entered}
 use Rattle.entries.specs.Entering.{enteredOf, entered}
-use Rattle.entries.specs.Laws.{entry-by}
+use Rattle.entries.specs.Laws.{entered-by}
 
 -- k entries of t are read from bit `from` up to bit `at`: the table holds them, and their sorts are at hand
 pub record Ruled (s : List ℕ) (from : ℕ) (t table : Table) (sorts : List ℕ) (at k : ℕ) : Type 0 where
@@ -33,7 +33,7 @@ pub record Ruled (s : List ℕ) (from : ℕ) (t table : Table) (sorts : List ℕ
   pub events : table .events ≡ t .events
   pub slots : length (table .entries) ≡ limits .slots
   pub room : length sorts ≡ limits .slots
-  pub known : (a : ℕ) → a < k → getD sorts a 0 ≡ sortNumber (sortOf (entryAt table a))
+  pub known : Sorts table k sorts
 
 -- no entry yet
 pub ruled-start : (s : List ℕ) (from : ℕ) (t : Table) → length (t .entries) ≡ limits .slots → Ruled s from t t (replicate (limits .slots) 0) from 0
@@ -72,10 +72,7 @@ module _ {s : List ℕ} {from : ℕ} {t table : Table} {sorts : List ℕ} {at k 
 
   -- the next entry is read by what is at hand
   next-entry : length s ≤ limits .script → entered sorts (t .events) (t .q) (t .v) k s at ≡ enteredOf (entry table k s at)
-  unfolding entered
-  next-entry short =
-      rw (le-ltb (limits .script) (length s) short, ← so-far .events, ← so-far .counts .0, ← so-far .counts .1)
-      (ap enteredOf (entry-by table sorts k s at (so-far .known)))
+  next-entry short = rw (← so-far .events, ← so-far .counts .0, ← so-far .counts .1) (entered-by table sorts k s at (so-far .known) short)
 
   -- an entry that is refused
   pub ruled-refused : length s ≤ limits .script → (r : Refusal) → entered sorts (t .events) (t .q) (t .v) k s at ≡ Entered.Refused r
@@ -83,8 +80,7 @@ module _ {s : List ℕ} {from : ℕ} {t table : Table} {sorts : List ℕ} {at k 
   ruled-refused short r e = one-left ∙ rw (entered-refused (entry table k s at) r (sym (next-entry short) ∙ e)) refl
 
   -- the sorts with one more
-  sort-known : (e : Entry) (sort : ℕ) → sort ≡ sortOfKind (apartOf e .kind) → k < limits .slots
-      → (a : ℕ) → a < k + 1 → getD (set sorts k sort) a 0 ≡ sortNumber (sortOf (entryAt (withEntry table k e) a))
+  sort-known : (e : Entry) (sort : ℕ) → sort ≡ sortOfKind (apartOf e .kind) → k < limits .slots → Sorts (withEntry table k e) (k + 1) (set sorts k sort)
   unfolding entryAt apartOf
   sort-known e sort is slot a h =
       ⊎-elim
