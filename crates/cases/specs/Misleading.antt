@@ -6,6 +6,7 @@ use Prim.Native.Nat.{ℕ, zero, suc, _<_}
 use native.Mathlib.Omega.{arith}
 use lib.Dec.{T, ltb, eqb, lit<, lt→ltb, leb·suc-zero, eqb·suc-zero}
 use Rattle.values.specs.declared.Truth.{Truth}
+use Rattle.values.specs.declared.Number.{Number}
 use Rattle.values.specs.declared.Outcome.{Outcome}
 use Rattle.values.specs.Truths.{isFalse}
 use Rattle.values.specs.Outcomes.{Said, true-condition, undefined-condition, occurs, does-not-occur, violated, not-violated, said}
@@ -14,7 +15,9 @@ use Rattle.table.specs.declared.Entry.the-variants.{ImportedCondition, Pair, St
 use Rattle.table.specs.Kinds.{operandsOf, updateOf}
 use Rattle.table.specs.Tables.{entryAt}
 use Rattle.step.specs.Steps.{Step}
-use Rattle.history.specs.Meaning.{Givens, meaning}
+use Rattle.meaning.specs.declared.Givens.{Givens}
+use Rattle.meaning.specs.Places.{placesOf}
+use Rattle.meaning.specs.Meaning.{meaning}
 use Rattle.history.specs.History.{Moment, rowAt, Judge, judge, conditionBefore, heldBefore, givensAt, resultBy, theLogic}
 use Rattle.history.specs.Marked.{Case, answerBy, rules, p3, p8, p9end, trueThenUndefined, readThenUpdate}
 use Rattle.reach.specs.Reaching.{Entries, isOperand, isRead, readsUpdate, leadsTo, Closed, Least}
@@ -39,23 +42,26 @@ flatResult (Outcome.Done b) = Outcome.Done b
 flatResult (Outcome.Raised b) = Outcome.Raised b
 flatResult (Outcome.Property c) = Outcome.Property (flat c)
 
--- what is given, with every condition false before the first step
-abbrev flatGivens : List Moment → Givens → Givens
-flatGivens past g =
+-- what is given, where the condition counts as false before the first step
+abbrev flatGivens : Truth → Givens → Givens
+flatGivens before g =
     record {
       told = g .told;
       clock = g .clock;
       reported = g .reported;
       held = g .held;
       paired = g .paired;
-      wasTrue = g .wasTrue;
-      wasFalse = λ c. isFalse (flat (conditionBefore past c));
+      stood = g .stood;
+      failed = isFalse (flat before);
       latest = g .latest;
     }
 
 -- the judge of this reading
 pub undefinedForFalse : Judge
-undefinedForFalse t past s row k = flatResult (meaning (entryAt t k) (rowAt row) (flatGivens past (givensAt t past s row k)))
+undefinedForFalse t past s row k =
+    let places = placesOf (entryAt t k) in
+    flatResult
+    (meaning (entryAt t k) (rowAt row (places .first)) (rowAt row (places .second)) (flatGivens (conditionBefore past (places .first)) (givensAt t past s row k)))
 
 -- "It makes P3 true, gives P9 an end and takes away the end in P8."
 undefined-for-false : map (answerBy undefinedForFalse) (p3 ∷ p9end ∷ p8 ∷ []) ≡ true-condition ∷ occurs ∷ does-not-occur ∷ []
@@ -94,22 +100,24 @@ pub reading-2-differs : ((steps : List Step) → conditionSays steps ≡ pairSay
 reading-2-differs same = let z : _≡_ {A = ℕ} 0 1 = cc (at-p9 .0, at-p9 .1, same trueThenUndefined) in omega arith
 
 -- 3. "Evaluating all conditions before all updates": a read sees the updates of earlier steps alone
-abbrev lateGivens : Table → List Moment → Givens → Givens
-lateGivens t past g =
+abbrev lateGivens : Number → Givens → Givens
+lateGivens held g =
     record {
       told = g .told;
       clock = g .clock;
       reported = g .reported;
-      held = heldBefore t past;
+      held = held;
       paired = g .paired;
-      wasTrue = g .wasTrue;
-      wasFalse = g .wasFalse;
+      stood = g .stood;
+      failed = g .failed;
       latest = g .latest;
     }
 
 -- the judge of this reading
 pub updatesLast : Judge
-updatesLast t past s row k = meaning (entryAt t k) (rowAt row) (lateGivens t past (givensAt t past s row k))
+updatesLast t past s row k =
+    let places = placesOf (entryAt t k) in
+    meaning (entryAt t k) (rowAt row (places .first)) (rowAt row (places .second)) (lateGivens (heldBefore t past (places .variable)) (givensAt t past s row k))
 
 -- "Document 003's gate rule, whose update would then come too late, is right only if the update stands first and the rule sees it."
 gate-rule : (answerBy judge secondClosing ≡ not-violated) × (answerBy updatesLast secondClosing ≡ violated)

@@ -10,14 +10,17 @@ use Rattle.values.specs.declared.Truth.{Truth}
 use Rattle.values.specs.declared.Number.{Number}
 use Rattle.values.specs.declared.Outcome.{Outcome}
 use Rattle.values.specs.Truths.{isTrue, isFalse}
-use Rattle.values.specs.Outcomes.{conditionIn, eventIn, numberIn}
+use Rattle.values.specs.Outcomes.{conditionIn, eventIn, numberIn, isDone}
 use Rattle.table.specs.declared.Table.{Table}
 use Rattle.table.specs.Limits.{limits}
 use Rattle.table.specs.Kinds.{Change, updateOf}
 use Rattle.table.specs.Tables.{entryAt, initialOf}
 use Rattle.table.specs.Below.{someBelow, noneBelow}
-use Rattle.step.specs.Steps.{Told, nothing, condition, event, Step, toldBy}
-use Rattle.history.specs.Meaning.{Givens, meaning}
+use Rattle.step.specs.declared.Told.{Told}
+use Rattle.step.specs.Steps.{Step, toldBy}
+use Rattle.meaning.specs.declared.Givens.{Givens}
+use Rattle.meaning.specs.Places.{placesOf}
+use Rattle.meaning.specs.Meaning.{meaning, theMeaning}
 
 -- the accepted steps, the latest first
 abbrev pub History : Type 0
@@ -43,9 +46,9 @@ pub data LastReport : Type 0 where
 
 -- the report of this step, else an earlier one
 abbrev pub reportedAt : ℕ → Told → LastReport → LastReport
-reportedAt time nothing earlier = earlier
-reportedAt time (condition c) earlier = reported c time
-reportedAt time (event x) earlier = earlier
+reportedAt time Told.Nothing earlier = earlier
+reportedAt time (Told.Condition c) earlier = reported c time
+reportedAt time (Told.Event x) earlier = earlier
 
 -- the last report of import i in a history
 unfoldable pub lastReport : History → ℕ → LastReport
@@ -79,16 +82,6 @@ unfoldable pub latestTime : List Moment → ℕ → Number
 latestTime [] e = Number.Undefined
 latestTime (m ∷ ms) e = cond (eventIn (rowAt (m .row) e)) (Number.Whole (pos (m .step .time))) (latestTime ms e)
 
--- a done update
-abbrev pub isDone : Outcome → Bool
-isDone Outcome.Nothing = false
-isDone (Outcome.Condition c) = false
-isDone (Outcome.Event b) = false
-isDone (Outcome.Numeric x) = false
-isDone (Outcome.Done b) = b
-isDone (Outcome.Raised b) = false
-isDone (Outcome.Property c) = false
-
 -- "An update whose event occurs gives the variable that number, undefined included."
 abbrev pub givenBy : Option Change → Outcome → Row → ℕ → Option Number
 givenBy none o row x = none
@@ -121,15 +114,17 @@ stepsOf (m ∷ ms) = m .step ∷ stepsOf ms
 -- what entry k looks at in this step, after the results `row` of the entries before it
 unfoldable pub givensAt : Table → List Moment → Step → Row → ℕ → Givens
 givensAt t past s row k =
+    let places = placesOf (entryAt t k) in
+    let moments : List Moment = record { step = s; row = row } ∷ past in
     record {
-      told = toldBy (s .reports);
-      clock = s .time;
-      reported = λ i. lastValue (lastReport (s ∷ stepsOf past) i);
-      held = heldAt t past row k;
-      paired = pairHolds (record { step = s; row = row } ∷ past);
-      wasTrue = λ c. isTrue (conditionBefore past c);
-      wasFalse = λ c. isFalse (conditionBefore past c);
-      latest = latestTime (record { step = s; row = row } ∷ past);
+      told = toldBy (s .reports) (places .imported);
+      clock = pos (s .time);
+      reported = lastValue (lastReport (s ∷ stepsOf past) (places .imported));
+      held = heldAt t past row k (places .variable);
+      paired = pairHolds moments (places .first) (places .second);
+      stood = isTrue (conditionBefore past (places .first));
+      failed = isFalse (conditionBefore past (places .first));
+      latest = latestTime moments (places .first);
     }
 
 -- how the result of entry k follows from the moments before this step, this step, and the results before entry k
@@ -138,7 +133,9 @@ Judge = Table → List Moment → Step → Row → ℕ → Outcome
 
 -- the judge of document 01
 unfoldable pub judge : Judge
-judge t past s row k = meaning (entryAt t k) (rowAt row) (givensAt t past s row k)
+judge t past s row k =
+    let places = placesOf (entryAt t k) in
+    meaning (entryAt t k) (rowAt row (places .first)) (rowAt row (places .second)) (givensAt t past s row k)
 
 -- "Entries are taken in script order within a step."
 unfoldable pub rowTo : Judge → Table → List Moment → Step → ℕ → Row
@@ -169,5 +166,5 @@ resultsOf t h = let row = latestRow (momentsBy judge t h) in row ++ replicate (l
 
 -- names all that the logic is computed with: an example says `unfolding theLogic`
 unfoldable pub theLogic : Unit {0}
-unfolding entryAt initialOf updateOf toldBy meaning lastReport someBelow noneBelow pairHolds latestTime givenBefore heldBefore heldAt stepsOf givensAt judge rowTo momentsBy resultBy resultAt resultsOf
+unfolding entryAt initialOf updateOf toldBy theMeaning lastReport someBelow noneBelow pairHolds latestTime givenBefore heldBefore heldAt stepsOf givensAt judge rowTo momentsBy resultBy resultAt resultsOf
 theLogic = tt

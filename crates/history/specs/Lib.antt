@@ -1,5 +1,4 @@
 -- "The logic over the history": results from the accepted steps alone, with nothing that a monitor keeps.
-pub mod Meaning
 pub mod History
 pub mod Offered
 pub mod Pairs

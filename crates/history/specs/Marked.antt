@@ -17,7 +17,8 @@ use Rattle.table.specs.Limits.{limits}
 use Rattle.table.specs.Kinds.{operandsOf, sortOf}
 use Rattle.table.specs.Tables.{entryAt, initialOf, isEvent, importSort, everySlot, unusedSlots}
 use Rattle.table.specs.Faults.{operandFault, operandsFault, limitsFault, numberFault, tableFault}
-use Rattle.step.specs.Steps.{condition, event, Report, Step}
+use Rattle.step.specs.declared.Told.{Told}
+use Rattle.step.specs.Steps.{Report, Step}
 use Rattle.history.specs.History.{Judge, judge, resultBy, theLogic}
 
 -- a list made as long as that with the same thing
@@ -42,11 +43,11 @@ at time reports = record { time = time; reports = reports }
 
 -- a condition is reported as such
 abbrev pub is : ℕ → Truth → Report
-is i c = record { imported = i; told = condition c }
+is i c = record { imported = i; told = Told.Condition c }
 
 -- an event is reported, with no value
 abbrev pub happens : ℕ → Report
-happens i = record { imported = i; told = event Number.Undefined }
+happens i = record { imported = i; told = Told.Event Number.Undefined }
 
 -- an example: what document 01 says of an entry at the last of these steps
 pub record Case : Type 0 where

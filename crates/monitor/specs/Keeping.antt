@@ -1,8 +1,5 @@
 -- What a monitor keeps, when that is at fault, and the start.
-use mathlib.Core.Bool.{Bool}
-use Prim.Native.Nat.{ℕ, zero, suc, _^_}
-use lib.Dec.{leb}
-use lib.IntN.{pos}
+use Prim.Native.Nat.{ℕ}
 use lib.ListN.{getD, replicate}
 use Rattle.values.specs.declared.Truth.{Truth}
 use Rattle.values.specs.declared.Number.{Number}
@@ -13,17 +10,9 @@ use Rattle.table.specs.declared.Table.{Table}
 use Rattle.table.specs.Limits.{limits}
 use Rattle.table.specs.Tables.{emptyTable, numberAt}
 use Rattle.table.specs.Faults.{tableFault, numberFault, asUnsound, unsoundTable}
+use Rattle.memory.specs.Recall.{keptFits, keptTime}
 use Rattle.monitor.specs.declared.Monitor.{Monitor}
 use Rattle.monitor.specs.declared.Started.{Started}
-
--- a kept time: one more than the time, and 0 where there is none
-abbrev pub keptTime : ℕ → Number
-keptTime zero = Number.Undefined
-keptTime (suc t) = Number.Whole (pos t)
-
--- "Times are milliseconds, 0 to 2^47−1": a kept time that is none, or one of these
-abbrev pub keptFits : ℕ → Bool
-keptFits c = leb c (2 ^ 47)
 
 -- the time of the last accepted step, undefined before any
 abbrev pub lastTime : Monitor → Number
@@ -36,10 +25,6 @@ cellAt m k = getD (m .cells) k 0
 -- the number that a variable holds
 abbrev pub heldIn : Monitor → ℕ → Number
 heldIn m x = numberAt (m .held) x
-
--- the last reported value of an import
-abbrev pub reportedIn : Monitor → ℕ → Truth
-reportedIn m i = getD (m .reported) i (record { truth = Truth.Undefined }) .truth
 
 -- "a kept number or time out of range"
 unfoldable pub keptFault : Monitor → Answer

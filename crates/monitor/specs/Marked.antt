@@ -4,9 +4,10 @@ use mathlib.Core.Path.{_≡_, refl}
 use Rattle.values.specs.Outcomes.{Said, said}
 use Rattle.refusals.specs.declared.Answer.{Answer}
 use Rattle.bits.specs.Bits.{theBits}
+use Rattle.bits.specs.Reading.{got}
 use Rattle.table.specs.Faults.{theFaults}
 use Rattle.step.specs.Steps.{Step, toldBy}
-use Rattle.history.specs.Meaning.{meaning}
+use Rattle.step.specs.Taking.{takenOf}
 use Rattle.history.specs.Marked.{Case, cases}
 use Rattle.monitor.specs.declared.Stepped.{Stepped}
 use Rattle.monitor.specs.Keeping.{startOn, unsound, theKeeping}
@@ -15,7 +16,7 @@ use Rattle.monitor.specs.Stepping.{advanced, resultIn, noResults, theSte
 -- a start and one accepted step after another
 pub afterSteps : Stepped → List Step → Stepped
 afterSteps r [] = r
-afterSteps r (s ∷ later) = afterSteps (advanced (r .monitor) s) later
+afterSteps r (s ∷ later) = afterSteps (advanced (r .monitor) (takenOf (r .monitor .reported) (got s 0))) later
 
 -- the steps of a case, from a fresh start
 pub runOf : Case → Stepped
@@ -27,10 +28,10 @@ monitorSays c = said (resultIn (runOf c .results) (c .asked))
 
 -- P1 to P12 by the monitor
 pub marked-by-monitor : map monitorSays cases ≡ map (λ c. c .says) cases
-unfolding monitorSays runOf afterSteps said theBits theFaults toldBy meaning theKeeping theStepping
+unfolding monitorSays runOf afterSteps said theBits theFaults toldBy theKeeping theStepping
 marked-by-monitor = refl
 
 -- "Neither falls under 29", at these examples
 pub marked-stay-sound : map (λ c. unsound (runOf c .monitor)) cases ≡ map (λ c. Answer.Accepted) cases
-unfolding monitorSays runOf afterSteps said theBits theFaults toldBy meaning theKeeping theStepping
+unfolding monitorSays runOf afterSteps said theBits theFaults toldBy theKeeping theStepping
 marked-stay-sound = refl

@@ -1,14 +1,20 @@
-// The monitor: one state of fixed size, and what a start and a step answer.
+// The monitor: one state of fixed size, a start and a step.
+mod kept;
+mod walk;
+
+use crate::kept::unsound;
+use crate::walk::advance;
 use refusals::Answer;
+use refusals::Refusal;
+use step::TruthSlot;
 use table::Table;
 use table::VariableSlot;
+use values::Outcome;
 use values::Slot;
 use values::Truth;
-
-// The last reported value of one import.
-pub struct TruthSlot {
-    pub truth: Truth,
-}
+ghost use mathlib.Core.Path.{_≡_};
+ghost use Rattle.monitor.specs.Keeping.{fresh, startOn};
+ghost use Rattle.monitor.specs.Stepping.{refusedStep, stepOf};
 
 // A kept time is one more than the time, and 0 where there is none.
 pub struct Monitor {
@@ -35,4 +41,68 @@ pub struct Stepped {
     pub answer: Answer,
     pub monitor: Monitor,
     pub results: [Slot; Table::ENTRIES],
+}
+
+// "a monitor that holds that table and no accepted step yet"
+fn fresh(t: Table) -> Monitor
+    ensures { λ r. ⌜ r ≡ fresh t ⌝ }
+{
+    let variables = t.variables;
+    Monitor {
+        table: t,
+        last: 0,
+        reported: [TruthSlot {
+            truth: Truth::Undefined,
+        }; Table::IMPORTS],
+        held: variables,
+        cells: [0; Table::ENTRIES],
+    }
+}
+
+// A start on a table: a fresh monitor, or 29 and the monitor of the empty table.
+pub fn start(t: Table) -> Started
+    ensures { λ r. ⌜ r ≡ startOn t ⌝ }
+{
+    match sound::fault(t) {
+        Answer::Accepted => Started {
+            answer: Answer::Accepted,
+            monitor: fresh(t),
+        },
+        Answer::Refused(r) => Started {
+            answer: Answer::Refused(Refusal::Unsound),
+            monitor: fresh(Table::empty()),
+        },
+    }
+}
+
+// "A refused step returns the monitor unchanged and 128 times 'no result'."
+fn refused(r: Refusal, m: Monitor) -> Stepped
+    ensures { λ r₁. ⌜ r₁ ≡ refusedStep r m ⌝ }
+{
+    Stepped {
+        answer: Answer::Refused(r),
+        monitor: m,
+        results: [Slot {
+            outcome: Outcome::Nothing,
+        }; Table::ENTRIES],
+    }
+}
+
+// A step: 29 before all else, then what the bytes say, then the entries in order.
+pub fn step(m: Monitor, s: &[u8]) -> Stepped
+    ensures { λ r. ⌜ r ≡ stepOf m (now (s .entry)) ⌝ }
+{
+    match unsound(m) {
+        Answer::Refused(r) => refused(r, m),
+        Answer::Accepted => {
+            let table = m.table;
+            let reported = m.reported;
+            let taken = step::read(table, m.last, reported, s);
+            let answer = taken.answer;
+            match answer {
+                Answer::Refused(r) => refused(r, m),
+                Answer::Accepted => advance(m, taken),
+            }
+        }
+    }
 }

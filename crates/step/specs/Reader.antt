@@ -15,7 +15,8 @@ use Rattle.bits.specs.Twos.{signed}
 use Rattle.bits.specs.Reading.{refused, Reading, give, _>>=_, field, whatever, padding, ended}
 use Rattle.table.specs.declared.Table.{Table}
 use Rattle.table.specs.Tables.{isEvent}
-use Rattle.step.specs.Steps.{Told, condition, event, Report, Step}
+use Rattle.step.specs.declared.Told.{Told}
+use Rattle.step.specs.Steps.{Report, Step}
 
 -- "for a condition 2 bits (00 false, 01 true, 10 undefined)"
 abbrev pub truthCode : ℕ → Truth
@@ -23,12 +24,12 @@ truthCode c = cond (eqb c 0) Truth.False (cond (eqb c 1) Truth.True Truth.Undefi
 
 -- "25: condition report 11"
 unfoldable pub conditionReport : Reading Told
-conditionReport = field Refusal.StepCut 2 (λ c. unless (ltb c 3) Refusal.ConditionReport) >>= λ c. give (condition (truthCode c))
+conditionReport = field Refusal.StepCut 2 (λ c. unless (ltb c 3) Refusal.ConditionReport) >>= λ c. give (Told.Condition (truthCode c))
 
 -- the 48-bit value of an event, where the bit before it is 1
 abbrev pub eventValue : Bool → Reading Told
-eventValue true = field Refusal.StepCut 48 whatever >>= λ v. give (event (Number.Whole (signed v)))
-eventValue false = give (event Number.Undefined)
+eventValue true = field Refusal.StepCut 48 whatever >>= λ v. give (Told.Event (Number.Whole (signed v)))
+eventValue false = give (Told.Event Number.Undefined)
 
 -- "for an event 1 bit and, if that is 1, a 48-bit value"
 unfoldable pub eventReport : Reading Told

@@ -80,6 +80,16 @@ numberIn (Done b) = Number.Undefined
 numberIn (Raised b) = Number.Undefined
 numberIn (Property c) = Number.Undefined
 
+-- whether an update was done
+abbrev pub isDone : Outcome → Bool
+isDone Nothing = false
+isDone (Condition c) = false
+isDone (Event b) = false
+isDone (Numeric x) = false
+isDone (Done b) = b
+isDone (Raised b) = false
+isDone (Property c) = false
+
 -- the result that the document's words stand for
 outcomeOf : Said → Outcome
 outcomeOf no-result = Nothing

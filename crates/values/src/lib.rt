@@ -1,5 +1,6 @@
 // The values of document 01: conditions, numbers and results.
 mod numbers;
+mod outcomes;
 mod truths;
 
 // "A condition is true, false or undefined."

@@ -3,7 +3,6 @@ use crate::Number;
 use crate::Truth;
 ghost use mathlib.Core.Path.{_≡_};
 ghost use lib.IntN.{_+ℤ_, _-ℤ_};
-ghost use Rattle.values.specs.Truths.{truthOf};
 ghost use Rattle.values.specs.Numbers.{inRange, fitsN, ranged, sumN, differenceN, lessN, equalN};
 ghost use Rattle.values.specs.Adding.{negative, addable};
 
@@ -65,12 +64,6 @@ fn subtract(a: i64, b: i64) -> Number
     }
 }
 
-fn truth_of(b: bool) -> Truth
-    ensures { λ r. ⌜ r ≡ truthOf b ⌝ }
-{
-    if b { Truth::True } else { Truth::False }
-}
-
 impl Number {
     // "Sum ... undefined where an operand is."
     pub fn sum(self, other: Number) -> Number
@@ -106,7 +99,7 @@ impl Number {
             Number::Undefined => Truth::Undefined,
             Number::Whole(a) => match other {
                 Number::Undefined => Truth::Undefined,
-                Number::Whole(b) => truth_of(a < b),
+                Number::Whole(b) => Truth::of(a < b),
             },
         }
     }
@@ -119,7 +112,7 @@ impl Number {
             Number::Undefined => Truth::Undefined,
             Number::Whole(a) => match other {
                 Number::Undefined => Truth::Undefined,
-                Number::Whole(b) => truth_of(a == b),
+                Number::Whole(b) => Truth::of(a == b),
             },
         }
     }

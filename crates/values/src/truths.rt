@@ -1,7 +1,7 @@
 // The operators on conditions.
 use crate::Truth;
 ghost use mathlib.Core.Path.{_≡_};
-ghost use Rattle.values.specs.Truths.{notT, orT, andT, impliesT, definedT};
+ghost use Rattle.values.specs.Truths.{notT, orT, andT, impliesT, definedT, truthOf, isTrue, isFalse};
 
 impl Truth {
     // "Not, or and defined are those of table 4.2 in source document 000"
@@ -51,5 +51,34 @@ impl Truth {
         ensures { λ r. ⌜ r ≡ impliesT self other ⌝ }
     {
         self.not().or(other)
+    }
+
+    // "where the condition is true"
+    pub fn is_true(self) -> bool
+        ensures { λ r. ⌜ r ≡ isTrue self ⌝ }
+    {
+        match self {
+            Truth::Undefined => false,
+            Truth::False => false,
+            Truth::True => true,
+        }
+    }
+
+    // "where it is false": undefined is not false
+    pub fn is_false(self) -> bool
+        ensures { λ r. ⌜ r ≡ isFalse self ⌝ }
+    {
+        match self {
+            Truth::Undefined => false,
+            Truth::False => true,
+            Truth::True => false,
+        }
+    }
+
+    // What is known to hold or known not to: never undefined.
+    pub fn of(b: bool) -> Truth
+        ensures { λ r. ⌜ r ≡ truthOf b ⌝ }
+    {
+        if b { Truth::True } else { Truth::False }
     }
 }

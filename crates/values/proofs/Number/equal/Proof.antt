@@ -9,7 +9,7 @@ use Rattle.values.proofs.Number.equal.Tie as tie
 returns-3 : tie.Need-returns-3
 returns-3 c =
     rw (c .before .before .before .before .before .self .given .1, c .before .before .other .given .1)
-    (c .truth-of .ensures ∙ ap truthOf
+    (c .of .ensures ∙ ap truthOf
     (same-bits (c .before .before .before .before .before .self .given .0 .0) (c .before .before .other .given .0 .0) (c .before .before .before .before .known-told .given .0 .1) (c .before .known-told2 .given .0 .1)))
 
 pub equal-spec : {M : Type 1} → statement M

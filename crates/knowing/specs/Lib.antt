@@ -1,0 +1,3 @@
+-- The monitor knows the whole history: what it keeps is what the history leaves, step after step.
+pub mod Recalling
+pub mod Fitting

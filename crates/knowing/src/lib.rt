@@ -1,0 +1,1 @@
+// The monitor knows the whole history. It has no code: what it says stands in specs/.

@@ -1,0 +1,3 @@
+-- What each of the twenty-five kinds means at one step.
+pub mod Places
+pub mod Meaning

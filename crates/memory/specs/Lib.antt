@@ -1,0 +1,3 @@
+-- What one entry keeps in its cell, and what it looks at.
+pub mod Memory
+pub mod Recall
