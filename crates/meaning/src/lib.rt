@@ -1,4 +1,9 @@
 // What each of the twenty-five kinds means at one step: where an entry looks, and what it says.
+mod looking;
+mod results;
+
+pub use looking::places_of;
+pub use results::result;
 use step::Told;
 use values::Number;
 use values::Truth;
