@@ -10,3 +10,6 @@ pub mod Variables
 pub mod Imports
 pub mod Walking
 pub mod Knowing
+pub mod Arriving
+pub mod Ranges
+pub mod Staying
