@@ -35,7 +35,7 @@ pub fn places_of(e: Entry) -> Places
         Entry::Both(a, b) => looking(a, b, 0, 0),
         Entry::Either(a, b) => looking(a, b, 0, 0),
         Entry::When(a, b) => looking(a, b, 0, 0),
-        Entry::Constant(z) => looking(0, 0, 0, 0),
+        Entry::Constant(_) => looking(0, 0, 0, 0),
         Entry::Variable(v) => looking(0, 0, 0, v),
         Entry::Sum(a, b) => looking(a, b, 0, 0),
         Entry::Difference(a, b) => looking(a, b, 0, 0),
