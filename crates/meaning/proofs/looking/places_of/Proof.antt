@@ -8,6 +8,7 @@ use Rattle.meaning.specs.Places.{placesOf}
 use Rattle.meaning.proofs.looking.places_of.Statement.{statement}
 use Rattle.meaning.proofs.looking.places_of.Tie as tie
 
+-- an entry that is x looks where x looks
 told : {e x : Entry} {r : Places} → e ≡ x → r ≡ placesOf x → r ≡ placesOf e
 told is looks = looks ∙ sym (ap placesOf is)
 

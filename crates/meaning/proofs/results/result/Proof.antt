@@ -20,6 +20,7 @@ use Rattle.meaning.specs.Meaning.{starts, ends, meaning}
 use Rattle.meaning.proofs.results.result.Statement.{statement}
 use Rattle.meaning.proofs.results.result.Tie as tie
 
+-- an entry that is v says what v says
 told : {e v : Entry} {r : Outcome} (x y : Outcome) (g : Givens) → e ≡ v → r ≡ meaning v x y g → r ≡ meaning e x y g
 told x y g is says = says ∙ sym (ap (λ (e : Entry). meaning e x y g) is)
 
