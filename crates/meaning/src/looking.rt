@@ -4,6 +4,7 @@ use table::Entry;
 ghost use mathlib.Core.Path.{_≡_};
 ghost use Rattle.meaning.specs.Places.{placesOf};
 
+// A look at two entries, an import and a variable; each is 0 where the entry has none.
 fn looking(first: u16, second: u16, imported: u16, variable: u16) -> Places
     ensures { λ r. ⌜ r ≡ record { first = first; second = second; imported = imported; variable = variable } ⌝ }
 {
@@ -15,7 +16,7 @@ fn looking(first: u16, second: u16, imported: u16, variable: u16) -> Places
     }
 }
 
-// Where an entry looks.
+// Where an entry looks, by the operands of its kind.
 pub fn places_of(e: Entry) -> Places
     ensures { λ r. ⌜ r ≡ placesOf e ⌝ }
 {
@@ -35,7 +36,7 @@ pub fn places_of(e: Entry) -> Places
         Entry::Both(a, b) => looking(a, b, 0, 0),
         Entry::Either(a, b) => looking(a, b, 0, 0),
         Entry::When(a, b) => looking(a, b, 0, 0),
-        Entry::Constant(z) => looking(0, 0, 0, 0),
+        Entry::Constant(_) => looking(0, 0, 0, 0),
         Entry::Variable(v) => looking(0, 0, 0, v),
         Entry::Sum(a, b) => looking(a, b, 0, 0),
         Entry::Difference(a, b) => looking(a, b, 0, 0),

@@ -6,7 +6,7 @@ use values::Number;
 use values::Outcome;
 use values::Truth;
 ghost use mathlib.Core.Path.{_≡_};
-ghost use mathlib.Core.Bool.{_&&_, _||_};
+ghost use mathlib.Core.Bool.{_&&_};
 ghost use Rattle.values.specs.Truths.{isTrue};
 ghost use Rattle.step.specs.Steps.{occursIn, valueIn};
 ghost use Rattle.meaning.specs.Meaning.{starts, ends, meaning};
@@ -47,18 +47,6 @@ fn ends(now: Truth, failed: bool) -> bool
     if now.is_false() { !failed } else { false }
 }
 
-fn both(a: bool, b: bool) -> bool
-    ensures { λ r. ⌜ r ≡ (a && b) ⌝ }
-{
-    if a { b } else { false }
-}
-
-fn either(a: bool, b: bool) -> bool
-    ensures { λ r. ⌜ r ≡ (a || b) ⌝ }
-{
-    if a { true } else { b }
-}
-
 // "when needs its condition to be true"
 fn when(event: bool, condition: Truth) -> bool
     ensures { λ r. ⌜ r ≡ (event && isTrue condition) ⌝ }
@@ -89,8 +77,8 @@ pub fn result(e: Entry, x: Outcome, y: Outcome, g: Givens) -> Outcome
         }
         Entry::Start(_) => Outcome::Event(starts(x.condition(), g.stood)),
         Entry::End(_) => Outcome::Event(ends(x.condition(), g.failed)),
-        Entry::Both(_, _) => Outcome::Event(both(x.event(), y.event())),
-        Entry::Either(_, _) => Outcome::Event(either(x.event(), y.event())),
+        Entry::Both(_, _) => Outcome::Event(x.event() & y.event()),
+        Entry::Either(_, _) => Outcome::Event(x.event() | y.event()),
         Entry::When(_, _) => Outcome::Event(when(x.event(), y.condition())),
         Entry::Constant(z) => Outcome::Numeric(Number::Whole(z)),
         Entry::Variable(_) => {

@@ -8,6 +8,7 @@ use Rattle.meaning.specs.Places.{placesOf}
 use Rattle.meaning.proofs.looking.places_of.Statement.{statement}
 use Rattle.meaning.proofs.looking.places_of.Tie as tie
 
+-- an entry that is x looks where x looks
 told : {e x : Entry} {r : Places} → e ≡ x → r ≡ placesOf x → r ≡ placesOf e
 told is looks = looks ∙ sym (ap placesOf is)
 
@@ -81,13 +82,13 @@ places-of-spec =
     (λ c. told (c .before .before .e13 .given .1) (c .looking13 .ensures))
     (λ c. told (c .before .before .e14 .given .1) (c .looking14 .ensures))
     (λ c. told (c .before .before .e15 .given .1) (c .looking15 .ensures))
-    (λ c. told (c .before .before .e16 .given .1) (c .looking16 .ensures))
-    (λ c. told (c .before .before .e17 .given .1) (c .looking17 .ensures))
-    (λ c. told (c .before .before .e18 .given .1) (c .looking18 .ensures))
-    (λ c. told (c .before .before .e19 .given .1) (c .looking19 .ensures))
-    (λ c. told (c .before .enum-told .given .1) (c .looking20 .ensures))
-    (λ c. told (c .before .before .e20 .given .1) (c .looking21 .ensures))
-    (λ c. told (c .before .before .e21 .given .1) (c .looking22 .ensures))
-    (λ c. told (c .before .before .e22 .given .1) (c .looking23 .ensures))
-    (λ c. told (c .before .before .e23 .given .1) (c .looking24 .ensures))
-    (λ c. told (c .before .before .e24 .given .1) (c .looking25 .ensures)))
+    (λ c. told (c .before .enum-told .given .1) (c .looking16 .ensures))
+    (λ c. told (c .before .before .e16 .given .1) (c .looking17 .ensures))
+    (λ c. told (c .before .before .e17 .given .1) (c .looking18 .ensures))
+    (λ c. told (c .before .before .e18 .given .1) (c .looking19 .ensures))
+    (λ c. told (c .before .enum-told2 .given .1) (c .looking20 .ensures))
+    (λ c. told (c .before .before .e19 .given .1) (c .looking21 .ensures))
+    (λ c. told (c .before .before .e20 .given .1) (c .looking22 .ensures))
+    (λ c. told (c .before .before .e21 .given .1) (c .looking23 .ensures))
+    (λ c. told (c .before .before .e22 .given .1) (c .looking24 .ensures))
+    (λ c. told (c .before .before .e23 .given .1) (c .looking25 .ensures)))

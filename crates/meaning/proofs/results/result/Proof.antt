@@ -20,12 +20,13 @@ use Rattle.meaning.specs.Meaning.{starts, ends, meaning}
 use Rattle.meaning.proofs.results.result.Statement.{statement}
 use Rattle.meaning.proofs.results.result.Tie as tie
 
+-- an entry that is v says what v says
 told : {e v : Entry} {r : Outcome} (x y : Outcome) (g : Givens) → e ≡ v → r ≡ meaning v x y g → r ≡ meaning e x y g
 told x y g is says = says ∙ sym (ap (λ (e : Entry). meaning e x y g) is)
 
-told-constant : {e : Entry} {z : ℤ} (x y : Outcome) (g : Givens) → e ≡ Entry.Constant z → mag z < 2 ^ 63 → Numeric (Whole (toZ w64 (ofZ w64 z))) ≡ meaning e x y g
-unfolding meaning
-told-constant {z = z} x y g is fits = told x y g is (ap (λ (n : ℤ). Numeric (Whole n)) (toZ-ofZ w64 z (record { sfits = fits })))
+-- a whole number is read back from its bits
+whole : {z : ℤ} → mag z < 2 ^ 63 → Numeric (Whole (toZ w64 (ofZ w64 z))) ≡ Numeric (Whole z)
+whole {z} fits = ap (λ (n : ℤ). Numeric (Whole n)) (toZ-ofZ w64 z (record { sfits = fits }))
 
 pub result-spec : {M : Type 1} → statement M
 unfolding meaning
@@ -72,9 +73,7 @@ result-spec =
     (λ c. search needs)
     (λ c κs. search needs)
     (λ c κs. search needs)
-    (λ c κs. search needs)
     (λ c. search needs)
-    (λ c κs. search needs)
     (λ c κs. search needs)
     (λ c κs. search needs)
     (λ c. search needs)
@@ -113,14 +112,14 @@ result-spec =
     (λ c. told _ _ _ (c .before .enum-told10 .given .1) (ap Event (c .occurs .ensures)))
     (λ c. told _ _ _ (c .before .before .enum-told11 .given .1) (ap Event (c .starts .ensures ∙ ap (λ (now : Truth). starts now (c .before .before .before .before .args .g .stood)) (c .before .condition9 .ensures))))
     (λ c. told _ _ _ (c .before .before .enum-told12 .given .1) (ap Event (c .ends .ensures ∙ ap (λ (now : Truth). ends now (c .before .before .before .before .args .g .failed)) (c .before .condition10 .ensures))))
-    (λ c. told _ _ _ (c .before .before .before .enum-told13 .given .1) (ap Event (c .both .ensures ∙ ap₂ _&&_ (c .before .before .event .ensures) (c .before .event2 .ensures))))
-    (λ c. told _ _ _ (c .before .before .before .enum-told14 .given .1) (ap Event (c .either .ensures ∙ ap₂ _||_ (c .before .before .event3 .ensures) (c .before .event4 .ensures))))
+    (λ c. told _ _ _ (c .before .before .enum-told13 .given .1) (ap₂ (λ (p q : Bool). Event (p && q)) (c .before .event .ensures) (c .event2 .ensures)))
+    (λ c. told _ _ _ (c .before .before .enum-told14 .given .1) (ap₂ (λ (p q : Bool). Event (p || q)) (c .before .event3 .ensures) (c .event4 .ensures)))
     (λ c. told _ _ _ (c .before .before .before .enum-told15 .given .1) (ap Event (c .when .ensures ∙ ap₂ (λ (p : Bool) (q : Truth). p && isTrue q) (c .before .before .event5 .ensures) (c .before .condition11 .ensures))))
-    (λ c. told-constant _ _ _ (c .before .e .given .1) (c .known-told .given .0 .1))
+    (λ c. told _ _ _ (c .before .e .given .1) (whole (c .known-told .given .0 .1)))
     (λ c. told _ _ _ (c .enum-told16 .given .1) refl)
     (λ c. told _ _ _ (c .before .before .before .enum-told17 .given .1) (ap Numeric (c .sum .ensures ∙ ap₂ sumN (c .before .before .number5 .ensures) (c .before .number6 .ensures))))
     (λ c. told _ _ _ (c .before .before .before .enum-told18 .given .1) (ap Numeric (c .difference .ensures ∙ ap₂ differenceN (c .before .before .number7 .ensures) (c .before .number8 .ensures))))
-    (λ c. told _ _ _ (c .before .enum-told19 .given .1) (ap (λ (n : ℤ). Numeric (Whole n)) (toZ-ofZ w64 _ (record { sfits = c .struct-told .given .1 .0 .1 }))))
+    (λ c. told _ _ _ (c .before .enum-told19 .given .1) (whole (c .struct-told .given .1 .0 .1)))
     (λ c. told _ _ _ (c .before .enum-told20 .given .1) (ap Numeric (c .value .ensures)))
     (λ c. told _ _ _ (c .enum-told21 .given .1) refl)
     (λ c. told _ _ _ (c .before .enum-told22 .given .1) (ap Done (c .event6 .ensures)))
