@@ -1,17 +1,24 @@
--- One report, as it is handed back: what it tells and the bit after it, or the refusal.
+-- One report: its import number and what follows it, what each is handed back as, and where it ends.
 use mathlib.Core.Bool.{Bool, true, false}
-use mathlib.Core.List.{List}
-use mathlib.Core.Path.{_≡_}
-use Prim.Native.Nat.{ℕ, _+_, _≤_}
+use mathlib.Core.List.{List, [], _∷_, _++_}
+use mathlib.Core.Path.{_≡_, refl, sym}
+use Prim.Native.Nat.{ℕ, suc, _+_, _<_, _≤_}
 use native.Mathlib.Omega.{arith}
-use lib.Dec.{eqb, ltb}
+use borrow.Author.Tests.{ltb-true, leb-true}
+use lib.Dec.{eqb, ltb, leb}
 use Rattle.refusals.specs.declared.Refusal.{Refusal}
 use Rattle.refusals.specs.Numbering.{unless}
-use Rattle.bits.specs.Reading.{Got, got, refused, whatever}
-use Rattle.bits.specs.Giving.{Gives, gives-value, gives-also, gives-field}
+use Rattle.refusals.specs.Accepting.{unless-accepted, accepted-first, accepted-second}
+use Rattle.bits.specs.Fields.{there-lt}
+use Rattle.bits.specs.Reading.{Got, got, refused, onward, onward-onward, Reading, give, _>>=_, field, whatever}
+use Rattle.bits.specs.Giving.{Gives, gives-value, gives-also, gives-onward, gives-field}
+use Rattle.table.specs.declared.Table.{Table}
+use Rattle.table.specs.Tables.{isEvent}
 use Rattle.step.specs.declared.Told.{Told}
 use Rattle.step.specs.declared.Heard.{Heard}
-use Rattle.step.specs.Reader.{conditionReport, eventValue, eventReport, reportFor}
+use Rattle.step.specs.declared.Next.{Next}
+use Rattle.step.specs.Steps.{Report}
+use Rattle.step.specs.Reader.{conditionReport, eventValue, eventReport, reportFor, importFault, reports}
 
 -- what was read, as it is handed back
 abbrev pub heardOf : Got Told → Heard
@@ -41,3 +48,65 @@ report-ends true s at =
     (λ bit there good. gives-also (value-ends (eqb bit 1) s (at + 1)) (λ told next h. omega arith))
 report-ends false s at =
     gives-field s at 2 Refusal.StepCut (λ c. unless (ltb c 3) Refusal.ConditionReport) _ (λ c there good. gives-value (omega arith))
+
+-- the next report of a step
+unfoldable pub nextReport : Table → ℕ → Reading Report
+nextReport t least = do
+  i ← field Refusal.StepCut 6 (importFault t least)
+  told ← reportFor (isEvent t i)
+  give (record { imported = i; told = told })
+
+-- what was read, as it is handed back
+abbrev pub nextOf : Got Report → Next
+nextOf (got r next) = Next.Report (r .imported) (r .told) next
+nextOf (refused r) = Next.Refused r
+
+-- the refusal that was handed back
+pub next-refused : (m : Got Report) (r : Refusal) → nextOf m ≡ Next.Refused r → m ≡ refused r
+next-refused (got report next) r e = let z : _≡_ {A = ℕ} 0 1 = cc in absurd (omega arith)
+next-refused (refused q) r e = cc
+
+-- the report that was handed back
+pub next-report : (m : Got Report) (i : ℕ) (told : Told) (next : ℕ) → nextOf m ≡ Next.Report i told next → m ≡ got (record { imported = i; told = told }) next
+next-report (got report end) i told next e =
+    let same : report .imported ≡ i = cc in
+    let news : report .told ≡ told = cc in
+    let ends : end ≡ next = cc in
+    rw (← same, ← news, ← ends) refl
+next-report (refused q) i told next e = let z : _≡_ {A = ℕ} 0 1 = cc in absurd (omega arith)
+
+-- what is known of the next report: its import is there, rises and has 6 bits, and a report takes 55 bits at most
+pub record Rising (t : Table) (least at : ℕ) (r : Report) (next : ℕ) : Type 0 where
+  pub known : r .imported < t .q
+  pub late : least ≤ r .imported
+  pub narrow : r .imported < 64
+  pub ends : next ≤ at + 55
+
+pub next-rising : (t : Table) (least : ℕ) (s : List ℕ) (at : ℕ) → Gives (nextReport t least s at) (Rising t least at)
+unfolding nextReport importFault
+next-rising t least s at =
+    gives-field s at 6 Refusal.StepCut (importFault t least) _ λ i there good.
+    gives-onward {m = reportFor (isEvent t i) s (at + 6)} λ told next e.
+    gives-value {next = next}
+    (record {
+      known = ltb-true i (t .q) (unless-accepted (ltb i (t .q)) Refusal.StepImport (accepted-first _ _ good));
+      late = leb-true least i (unless-accepted (leb least i) Refusal.ImportOrder (accepted-second (unless (ltb i (t .q)) Refusal.StepImport) _ good));
+      narrow = omega (arith, there-lt s at 6 i there);
+      ends = omega (arith, report-ends (isEvent t i) s (at + 6) .told told next e);
+    })
+
+-- two readings and what follows them, taken together
+together : {B : Type 0} (m : Got ℕ) (f : ℕ → ℕ → Got Told) (g : Report → ℕ → Got B)
+    → onward m (λ i next. onward (f i next) (λ told last. g (record { imported = i; told = told }) last))
+    ≡ onward (onward m (λ i next. onward (f i next) (λ told last. got (record { imported = i; told = told }) last))) g
+together (got i next) f g = sym (onward-onward (f i next) (λ told last. got (record { imported = i; told = told }) last) g)
+together (refused r) f g = refl
+
+-- the next report, and then those that are left
+pub reports-next : (t : Table) (left least : ℕ) (sofar : List Report) (s : List ℕ) (at : ℕ)
+    → reports t (suc left) least sofar s at
+    ≡ onward (nextReport t least s at) (λ r next. reports t left (suc (r .imported)) (sofar ++ (r ∷ [])) s next)
+unfolding reports nextReport
+reports-next t left least sofar s at =
+    together (field Refusal.StepCut 6 (importFault t least) s at) (λ i next. reportFor (isEvent t i) s next)
+    (λ r next. reports t left (suc (r .imported)) (sofar ++ (r ∷ [])) s next)

@@ -34,8 +34,14 @@ pub struct Taken {
     pub reported: [TruthSlot; Table::IMPORTS],
 }
 
-// What one report tells, and the bit after it, or the refusal.
+// What follows an import number: what is told of it, and the bit after that, or the refusal.
 enum Heard {
     Refused(Refusal),
     Told(Told, usize),
+}
+
+// The next report: its import, what it tells, and the bit after it, or the refusal.
+enum Next {
+    Refused(Refusal),
+    Report(usize, Told, usize),
 }

@@ -1,15 +1,18 @@
-// One report of a step: what follows its import number, and what it leaves as the last reported value.
+// One report of a step: its import number, judged, and what follows it.
 use crate::Heard;
+use crate::Next;
 use crate::Told;
 use bits::Field;
 use refusals::Refusal;
 use values::Number;
 use values::Truth;
+ghost use mathlib.Core.Bool.{false};
 ghost use mathlib.Core.Path.{_≡_};
 ghost use Prim.Native.Nat.{_≤_};
+ghost use lib.ListN.{getD};
+ghost use Rattle.table.specs.declared.Table as tables;
 ghost use Rattle.step.specs.Reader.{truthCode, conditionReport, eventReport, reportFor};
-ghost use Rattle.step.specs.Taking.{reportedNow};
-ghost use Rattle.step.specs.Hearing.{heardOf};
+ghost use Rattle.step.specs.Hearing.{heardOf, nextOf, nextReport};
 
 // "00 false, 01 true, 10 undefined"
 fn truth_of(code: u64) -> Truth
@@ -57,7 +60,7 @@ fn event(s: &[u8], at: usize) -> Heard
 }
 
 // What follows the import number, for an event and for a condition.
-pub(crate) fn report(s: &[u8], at: usize, of_event: bool) -> Heard
+fn report(s: &[u8], at: usize, of_event: bool) -> Heard
     requires { ⌜ at ≤ 65536 ⌝ }
     ensures { λ r. ⌜ r ≡ heardOf (reportFor «of_event» (now (s .entry)) at) ⌝ }
 {
@@ -67,13 +70,33 @@ pub(crate) fn report(s: &[u8], at: usize, of_event: bool) -> Heard
     condition(s, at)
 }
 
-// This step's report of a condition, else what was reported before.
-pub(crate) fn reported_now(told: Told, before: Truth) -> Truth
-    ensures { λ r. ⌜ r ≡ reportedNow told before ⌝ }
+// Whether an import is an event; past the slots none is.
+fn is_event(events: &[bool], i: usize) -> bool
+    ensures { λ r. ⌜ r ≡ getD (now (events .entry)) i false ⌝ }
 {
-    match told {
-        Told::Nothing => before,
-        Told::Condition(c) => c,
-        Told::Event(_) => before,
+    if i < events.len() {
+        return events[i];
+    }
+    false
+}
+
+// "A report is the import (6 bits), then ...": read by what is lent of the table, how many imports there are and which are events.
+pub(crate) fn next_report(s: &[u8], at: usize, q: usize, least: usize, events: &[bool]) -> Next
+    requires { ⌜ at ≤ 65000 ⌝ }
+    ensures { λ r. ⌜ ((t : tables.Table) → t .q ≡ q → t .events ≡ now (events .entry) → r ≡ nextOf (nextReport t least (now (s .entry)) at)) ⌝ }
+{
+    let Field::There(i) = bits::field_at(s, at, 6) else {
+        return Next::Refused(Refusal::StepCut);
+    };
+    let i = i as usize;
+    if q <= i {
+        return Next::Refused(Refusal::StepImport);
+    }
+    if i < least {
+        return Next::Refused(Refusal::ImportOrder);
+    }
+    match report(s, at + 6, is_event(events, i)) {
+        Heard::Refused(r) => Next::Refused(r),
+        Heard::Told(told, next) => Next::Report(i, told, next),
     }
 }
