@@ -25,19 +25,18 @@ use Rattle.step.specs.Stages.{afterReports, afterCount, closed, closed-a
 use Rattle.step.specs.Telling.{told-none, reported-none, told-more, reported-more}
 
 -- of `count` reports `left` are left, from bit `at` on; the next one's import is `least` or above
-pub record SoFar (t : Table) (count : ℕ) (before : List TruthSlot) (s : List ℕ) (told : List ToldSlot) (reported : List TruthSlot) (at least left : ℕ) : Type 0
-  where
-    -- those that were heard
-    pub heard : List Report
-    -- a report takes 55 bits at most
-    pub place : at + 55 * left ≤ 53 + 55 * count
-    -- what is left decides
-    pub rest : reports t count 0 [] s 53 ≡ reports t left least heard s at
-    -- what they tell
-    pub tells : told ≡ toldSlots heard
-    pub leaves : reported ≡ reportedAfter before heard
-    -- of an import that may still come only the others tell
-    pub rising : (i : ℕ) → least ≤ i → (others : List Report) → toldBy (heard ++ others) i ≡ toldBy others i
+pub record SoFar (t : Table) (count : ℕ) (before : List TruthSlot) (s : List ℕ) (told : List ToldSlot) (reported : List TruthSlot) (at least left : ℕ) : Type 0 where
+  -- those that were heard
+  pub heard : List Report
+  -- a report takes 55 bits at most
+  pub place : at + 55 * left ≤ 53 + 55 * count
+  -- what is left decides
+  pub rest : reports t count 0 [] s 53 ≡ reports t left least heard s at
+  -- what they tell
+  pub tells : told ≡ toldSlots heard
+  pub leaves : reported ≡ reportedAfter before heard
+  -- of an import that may still come only the others tell
+  pub rising : (i : ℕ) → least ≤ i → (others : List Report) → toldBy (heard ++ others) i ≡ toldBy others i
 
 -- none is heard yet
 pub heard-none : (t : Table) (count : ℕ) (before : List TruthSlot) (s : List ℕ) → length before ≡ limits .imports
@@ -58,19 +57,22 @@ module _ {t : Table} {count : ℕ} {before : List TruthSlot} {s : List ℕ} {tol
     -- no report is left: the end decides
     on-end : afterCount t time count s ≡ afterReports time s (sofar .heard) at
     unfolding reports
-    on-end = ap (λ (m : Got (List Report)). onward m (afterReports time s)) (sofar .rest ∙ ap (λ (n : ℕ). reports t n least (sofar .heard) s at) {x = left} {y = 0} (omega arith))
+    on-end =
+        ap (λ (m : Got (List Report)). onward m (afterReports time s))
+        (sofar .rest ∙ ap (λ (n : ℕ). reports t n least (sofar .heard) s at) {x = left} {y = 0} (omega arith))
 
     -- it isn't as it should be
     pub end-refused : (r : Refusal) → closed s at ≡ Answer.Refused r → afterCount t time count s ≡ refused r
-    end-refused r e = on-end ∙ closed-refused before time s (sofar .heard) at r e
+    end-refused r e = on-end ∙ closed-refused time s (sofar .heard) at r e
 
     -- it is
     pub end-accepted : closed s at ≡ Answer.Accepted
         → takenOf before (afterCount t time count s) ≡ record { answer = Answer.Accepted; time = time; told = told; reported = reported }
     end-accepted e =
         ap (takenOf before) on-end
-        ∙ closed-accepted before time s (sofar .heard) at e
-        ∙ ap₂ (λ (x : List ToldSlot) (y : List TruthSlot). record { answer = Answer.Accepted; time = time; told = x; reported = y }) (sym (sofar .tells)) (sym (sofar .leaves))
+        ∙ closed-accepted time s (sofar .heard) at before e
+        ∙ ap₂ (λ (x : List ToldSlot) (y : List TruthSlot). record { answer = Answer.Accepted; time = time; told = x; reported = y })
+        (sym (sofar .tells)) (sym (sofar .leaves))
 
   module _ (more : 0 < left) where
     -- the next report decides

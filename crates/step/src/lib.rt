@@ -34,14 +34,8 @@ pub struct Taken {
     pub reported: [TruthSlot; Table::IMPORTS],
 }
 
-// What follows an import number: what is told of it, and the bit after that, or the refusal.
+// A report that was heard: its import, what it tells of it, and the bit after it; or the refusal.
 enum Heard {
-    Refused(Refusal),
-    Told(Told, usize),
-}
-
-// The next report: its import, what it tells, and the bit after it, or the refusal.
-enum Next {
     Refused(Refusal),
     Report(usize, Told, usize),
 }

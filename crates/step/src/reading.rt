@@ -1,5 +1,5 @@
 // A step read from front to back: its time, its reports one after another, and its end.
-use crate::Next;
+use crate::Heard;
 use crate::Taken;
 use crate::Told;
 use crate::ToldSlot;
@@ -44,7 +44,7 @@ fn reported_now(told: Told, before: Truth) -> Truth
 
 // "Zero bits up to a whole byte end it."
 fn close(s: &[u8], at: usize) -> Answer
-    requires { ⌜ at ≤ 65536 ⌝ }
+    requires { ⌜ at ≤ 4096 ⌝ }
     ensures { λ r. ⌜ r ≡ closed (now (s .entry)) at ⌝ }
 {
     let w = (8 - at % 8) % 8;
@@ -80,10 +80,10 @@ fn reports(
     let mut left = count;
     while 0 < left {
         match next_report(s, at, t.q, least, &t.events) {
-            Next::Refused(r) => {
+            Heard::Refused(r) => {
                 return refused(r, earlier);
             }
-            Next::Report(i, news, next) => {
+            Heard::Report(i, news, next) => {
                 if i < Table::IMPORTS {
                     let slot = earlier[i];
                     let last = slot.truth;

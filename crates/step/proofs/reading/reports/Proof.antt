@@ -1,11 +1,11 @@
 -- `step::reading::reports` meets its contract. The loop's invariant: the reports so far, and what they tell; the measure is how many are left.
 use borrow.Author.Needs.{needs}
 use mathlib.Core.Logic.{⊎-elim}
-use mathlib.Core.Path.{_≡_, refl, sym, _∙_, ap}
+use mathlib.Core.Path.{_≡_, refl, sym, _∙_}
 use native.Mathlib.Omega.{arith}
 use Rattle.bits.specs.Reading.{got}
-use Rattle.step.specs.Taking.{takenOf}
-use Rattle.step.specs.Hearing.{nextOf, nextReport, next-refused, next-report, next-rising}
+use Rattle.step.specs.Stages.{taken-whole}
+use Rattle.step.specs.Hearing.{heardOf, nextReport, heard-refused, heard-report, next-rising}
 use Rattle.step.specs.SoFar.{SoFar, heard-none, end-refused, end-accepted, next-stops, next-stored, next-past}
 use Rattle.step.proofs.reading.reports.Statement.{statement}
 use Rattle.step.proofs.reading.reports.Tie as tie
@@ -31,21 +31,21 @@ start l = l .before .before
 
 -- the next report of the table at hand
 report-is : (p : tie.After-next-report Inv-loop μ-loop) → let a = start (turn p) .args in
-    nextOf (nextReport (a .t1) (turn p .loop .least) (a .s .now) (turn p .loop .at)) ≡ p .next-report .result
+    heardOf (nextReport (a .t1) (turn p .loop .least) (a .s .now) (turn p .loop .at)) ≡ p .next-report .result
 report-is p = sym (p .next-report .ensures (start (turn p) .args .t1) refl refl)
 
 returns : tie.Need-returns Inv-loop μ-loop
 returns c =
     let p : tie.After-next-report Inv-loop μ-loop = c .before .before .before .before in
     let a = start (turn p) .args in
-    c .refused .ensures
-    ∙ sym (ap (takenOf (a .t4)) (next-stops (turn p .loop .inv) (omega arith) (a .time) _ (next-refused _ _ (report-is p ∙ c .before .before .r .given .1))))
+    taken-whole (a .t4) (c .refused .ensures)
+    (next-stops (turn p .loop .inv) (omega arith) (a .time) _ (heard-refused _ _ (report-is p ∙ c .before .before .r .given .1)))
 
 -- a report that was read
 heard : (i : tie.After-i Inv-loop μ-loop) → let p : tie.After-next-report Inv-loop μ-loop = i .before .before in let a = start (turn p) .args in
     nextReport (a .t1) (turn p .loop .least) (a .s .now) (turn p .loop .at)
     ≡ got (record { imported = i .i .given .0 .0; told = i .i .given .0 .1 .0 }) (i .i .given .0 .1 .1 .0)
-heard i = next-report _ _ _ _ (report-is (i .before .before) ∙ i .i .given .1)
+heard i = heard-report _ _ _ _ (report-is (i .before .before) ∙ i .i .given .1)
 
 add-least : tie.Need-add-least Inv-loop μ-loop
 add-least c = omega (arith, next-rising _ _ _ _ .told _ _ (heard (c .before .before)) .narrow)
@@ -64,8 +64,8 @@ returns-2 c =
     let p : tie.After-close Inv-loop μ-loop = c .before .before .before .before in
     let l : tie.At-loop Inv-loop μ-loop = p .before .before in
     let a = start l .args in
-    c .refused2 .ensures
-    ∙ sym (ap (takenOf (a .t4)) (end-refused (l .loop .inv) (a .time) (omega arith) _ (sym (p .close .ensures) ∙ c .before .before .r2 .given .1)))
+    taken-whole (a .t4) (c .refused2 .ensures)
+    (end-refused (l .loop .inv) (a .time) (omega arith) _ (sym (p .close .ensures) ∙ c .before .before .r2 .given .1))
 
 returns-3 : tie.Need-returns-3 Inv-loop μ-loop
 returns-3 c =

@@ -9,12 +9,9 @@ use native.Mathlib.Omega.{arith}
 use lib.ListN.{getD}
 use Rattle.bits.specs.declared.Field.{Field}
 use Rattle.bits.specs.Bits.{fieldAt}
-use Rattle.bits.specs.Reading.{Got}
-use Rattle.table.specs.declared.Table.{Table}
 use Rattle.table.specs.Tables.{isEvent}
-use Rattle.step.specs.declared.Told.{Told}
 use Rattle.step.specs.Reader.{importFault, reportFor}
-use Rattle.step.specs.Hearing.{heardOf, heard-refused, heard-told, nextReport}
+use Rattle.step.specs.Hearing.{heardOf, about, nextReport}
 use Rattle.step.proofs.report.next_report.Statement.{statement}
 use Rattle.step.proofs.report.next_report.Tie as tie
 
@@ -27,22 +24,6 @@ number k = k .i .given .0 .0
 
 number-is : (k : tie.After-i) → fieldAt (start k .args .s .now) (start k .args .at) 6 ≡ Field.There (number k)
 number-is k = sym (k .before .before .field-at .ensures) ∙ k .i .given .1
-
--- where the import number was taken that comes before a report
-abbrev first : tie.After-report → tie.After-i
-first p = p .before .before .before .before .before
-
--- what follows it, for a table with these events
-abbrev follows : tie.After-report → Table → Got Told
-follows p t = let k = first p in reportFor (isEvent t (number k)) (start k .args .s .now) (start k .args .at + 6)
-
-report-is : (p : tie.After-report) (t : Table) → t .events ≡ start (first p) .args .events .now → heardOf (follows p t) ≡ p .report .result
-unfolding isEvent
-report-is p t same =
-    let k = first p in
-    ap (λ (b : Bool). heardOf (reportFor b (start k .args .s .now) (start k .args .at + 6)))
-    (ap (λ (l : List Bool). getD l (number k) false) same ∙ sym (p .before .is-event .ensures))
-    ∙ sym (p .report .ensures)
 
 returns : tie.Need-returns
 unfolding nextReport
@@ -59,18 +40,15 @@ returns-3 c t q-is events-are =
     rw (number-is k, lt-ltb (number k) (t .q) (omega arith), lt-leb (start k .args .least) (number k) (omega arith))
 
 returns-4 : tie.Need-returns-4
-unfolding nextReport importFault
+unfolding nextReport importFault isEvent
 returns-4 c t q-is events-are =
-    let p : tie.After-report = c .before .before .before in
-    let k : tie.After-i = first p in
-    rw (number-is k, lt-ltb (number k) (t .q) (omega arith), le-leb (start k .args .least) (number k) (omega arith), heard-refused (follows p t) _ (report-is p t events-are ∙ c .before .r .given .1))
-
-returns-5 : tie.Need-returns-5
-unfolding nextReport importFault
-returns-5 c t q-is events-are =
-    let p : tie.After-report = c .before .before .before in
-    let k : tie.After-i = first p in
-    rw (number-is k, lt-ltb (number k) (t .q) (omega arith), le-leb (start k .args .least) (number k) (omega arith), heard-told (follows p t) _ _ (report-is p t events-are ∙ c .before .told .given .1))
+    let k : tie.After-i = c .before .before .before .before .before in
+    let a = start k .args in
+    let event : c .before .is-event .result ≡ isEvent t (number k) =
+    c .before .is-event .ensures ∙ ap (λ (l : List Bool). getD l (number k) false) (sym events-are) in
+    c .report .ensures
+    ∙ ap (λ (b : Bool). heardOf (about (number k) (reportFor b (a .s .now) (a .at + 6)))) event
+    ∙ rw (number-is k, lt-ltb (number k) (t .q) (omega arith), le-leb (a .least) (number k) (omega arith))
 
 pub next-report-spec : {M : Type 1} → statement M
 next-report-spec =
@@ -85,7 +63,4 @@ next-report-spec =
     (λ c. search needs)
     (λ c κs. search needs)
     (λ c κs. search needs)
-    (λ c. search needs)
-    (λ c. search needs)
-    returns-4
-    returns-5)
+    returns-4)
