@@ -3,34 +3,20 @@ use mathlib.Core.List.{List, [], _∷_, _++_}
 use mathlib.Core.Path.{_≡_}
 use Prim.Native.Nat.{ℕ, zero, suc, _+_, _-_, _*_, _^_, _<_, _≤_}
 use native.Mathlib.Omega.{arith}
-use borrow.Author.Tests.{ltb-true, leb-true}
-use lib.Dec.{leb, ltb, eqb}
+use lib.Dec.{leb, eqb}
 use lib.ListN.{length}
 use Rattle.refusals.specs.declared.Refusal.{Refusal}
-use Rattle.refusals.specs.declared.Answer.{Answer}
 use Rattle.refusals.specs.Numbering.{unless}
-use Rattle.refusals.specs.Accepting.{unless-accepted, accepted-first, accepted-second}
 use Rattle.bits.specs.Bits.{paddingAt}
 use Rattle.bits.specs.Fields.{there-lt}
 use Rattle.bits.specs.Reading.{got, whatever}
 use Rattle.bits.specs.Giving.{Gives, gives-value, gives-also, gives-onward, gives-field, gives-ended}
 use Rattle.table.specs.declared.Table.{Table}
 use Rattle.table.specs.Limits.{limits}
-use Rattle.table.specs.Tables.{isEvent}
 use Rattle.step.specs.Steps.{Report, Step}
-use Rattle.step.specs.Reader.{reportFor, importFault, reports, readStep}
-use Rattle.step.specs.Hearing.{report-ends}
-use Rattle.step.specs.Stages.{afterReports, afterCount}
-
--- an import number that passes is below q, and not below the least that may come
-module _ (t : Table) (least i : ℕ) (good : importFault t least i ≡ Answer.Accepted) where
-  import-known : i < t .q
-  unfolding importFault
-  import-known = ltb-true i (t .q) (unless-accepted (ltb i (t .q)) Refusal.StepImport (accepted-first _ _ good))
-
-  import-late : least ≤ i
-  unfolding importFault
-  import-late = leb-true least i (unless-accepted (leb least i) Refusal.ImportOrder (accepted-second (unless (ltb i (t .q)) Refusal.StepImport) _ good))
+use Rattle.step.specs.Reader.{reports, readStep}
+use Rattle.step.specs.Hearing.{nextReport, Rising, next-rising, reports-next}
+use Rattle.step.specs.Stages.{afterReports}
 
 -- no import is reported twice: the reports take 55 bits at most for each import from `least` on
 reports-end : (t : Table) (left least : ℕ) (sofar : List Report) (s : List ℕ) (at : ℕ)
@@ -38,11 +24,10 @@ reports-end : (t : Table) (left least : ℕ) (sofar : List Report) (s : List ℕ
 unfolding reports
 reports-end t zero least sofar s at = gives-value (omega arith)
 reports-end t (suc left) least sofar s at =
-    gives-field s at 6 Refusal.StepCut (importFault t least) _ λ i there good.
-    gives-onward λ news next e.
-    gives-also (reports-end t left (suc i) (sofar ++ (record { imported = i; told = news } ∷ [])) s next)
-    (λ told last h.
-    omega (arith, import-known t least i good, import-late t least i good, report-ends (isEvent t i) s (at + 6) .told news next e))
+    rw (reports-next t left least sofar s at)
+    (gives-onward {m = nextReport t least s at} λ r next e.
+    let is : Rising t least at r next = next-rising t least s at .told r next e in
+    gives-also (reports-end t left (suc (r .imported)) (sofar ++ (r ∷ [])) s next) (λ told last h. omega arith))
 
 -- what ends after the reports ends within seven bits, at the end of the bytes
 closing-ends : (time : ℕ) (s : List ℕ) (told : List Report) (at : ℕ)
@@ -58,7 +43,7 @@ unfolding readStep
 step-ends t earliest s =
     gives-field s 0 47 Refusal.StepCut (λ time. unless (leb earliest time) Refusal.Time) _ λ time there late.
     gives-field s 47 6 Refusal.StepCut whatever _ λ count found good.
-    gives-onward λ told at e.
+    gives-onward {m = reports t count 0 [] s 53} λ told at e.
     gives-also (closing-ends time s told at)
     (λ step last h. (omega (arith, there-lt s 0 47 time there, h .0), omega (arith, h .1, reports-end t count 0 [] s 53 .told told at e)))
 

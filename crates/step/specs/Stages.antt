@@ -11,6 +11,7 @@ use Rattle.bits.specs.Bits.{fieldAt}
 use Rattle.bits.specs.Reading.{Got, got, refused, onward, onward-onward, _>>=_, Reading, padding, ended}
 use Rattle.table.specs.declared.Table.{Table}
 use Rattle.step.specs.declared.TruthSlot.{TruthSlot}
+use Rattle.step.specs.declared.Taken.{Taken}
 use Rattle.step.specs.Steps.{Report, Step}
 use Rattle.step.specs.Reader.{reports, readStep}
 use Rattle.step.specs.Taking.{takenOf}
@@ -29,7 +30,11 @@ afterReports time s told at =
 abbrev pub afterCount : Table → ℕ → ℕ → List ℕ → Got Step
 afterCount t time count s = onward (reports t count 0 [] s 53) (afterReports time s)
 
--- whether something was refused
+-- where a rest decides the whole, what is taken of the rest is taken of the whole
+pub taken-whole : (before : List TruthSlot) {taken : Taken} {whole rest : Got Step} → taken ≡ takenOf before rest → whole ≡ rest → taken ≡ takenOf before whole
+taken-whole before e is = e ∙ sym (ap (takenOf before) is)
+
+-- whether a reading was refused
 abbrev answerOf : Got ℕ → Answer
 answerOf (got end next) = Answer.Accepted
 answerOf (refused r) = Answer.Refused r
@@ -38,29 +43,34 @@ answerOf (refused r) = Answer.Refused r
 unfoldable pub closed : List ℕ → ℕ → Answer
 closed s at = answerOf (closing s at)
 
-module _ (before : List TruthSlot) (step : Step) where
-  taken-accepted : (m : Got ℕ) → answerOf m ≡ Answer.Accepted → takenOf before (onward m (λ end last. got step last)) ≡ takenOf before (got step 0)
-  taken-accepted (got end next) e = refl
-  taken-accepted (refused r) e = let z : _≡_ {A = ℕ} 0 1 = cc in absurd (omega arith)
+-- a step after a reading that was not refused
+after-accepted : (before : List TruthSlot) (step : Step) (m : Got ℕ) → answerOf m ≡ Answer.Accepted
+    → takenOf before (onward m (λ end last. got step last)) ≡ takenOf before (got step 0)
+after-accepted before step (got end next) e = refl
+after-accepted before step (refused r) e = let z : _≡_ {A = ℕ} 0 1 = cc in absurd (omega arith)
 
-  taken-refused : (m : Got ℕ) (r : Refusal) → answerOf m ≡ Answer.Refused r → onward m (λ end last. got step last) ≡ refused r
-  taken-refused (got end next) r e = let z : _≡_ {A = ℕ} 0 1 = cc in absurd (omega arith)
-  taken-refused (refused q) r e = cc
+-- and after one that was
+after-refused : (step : Step) (m : Got ℕ) (r : Refusal) → answerOf m ≡ Answer.Refused r → onward m (λ end last. got step last) ≡ refused r
+after-refused step (got end next) r e = let z : _≡_ {A = ℕ} 0 1 = cc in absurd (omega arith)
+after-refused step (refused q) r e = cc
 
-module _ (before : List TruthSlot) (time : ℕ) (s : List ℕ) (told : List Report) (at : ℕ) where
+module _ (time : ℕ) (s : List ℕ) (told : List Report) (at : ℕ) where
   -- the end of a step as one reading
   closing-first : afterReports time s told at ≡ onward (closing s at) (λ end last. got (record { time = time; reports = told }) last)
-  closing-first = sym (onward-onward (padding Refusal.StepCut Refusal.StepPadding s at) (λ zeros next. ended Refusal.StepLeftOver s next) (λ end last. got _ last))
+  closing-first =
+      sym
+      (onward-onward (padding Refusal.StepCut Refusal.StepPadding s at) (λ zeros next. ended Refusal.StepLeftOver s next) (λ end last. got _ last))
 
   -- a step that ends as it should is taken
-  pub closed-accepted : closed s at ≡ Answer.Accepted → takenOf before (afterReports time s told at) ≡ takenOf before (got (record { time = time; reports = told }) 0)
+  pub closed-accepted : (before : List TruthSlot) → closed s at ≡ Answer.Accepted
+      → takenOf before (afterReports time s told at) ≡ takenOf before (got (record { time = time; reports = told }) 0)
   unfolding closed
-  closed-accepted e = ap (takenOf before) closing-first ∙ taken-accepted before _ (closing s at) e
+  closed-accepted before e = ap (takenOf before) closing-first ∙ after-accepted before _ (closing s at) e
 
   -- any other is refused
   pub closed-refused : (r : Refusal) → closed s at ≡ Answer.Refused r → afterReports time s told at ≡ refused r
   unfolding closed
-  closed-refused r e = closing-first ∙ taken-refused before _ (closing s at) r e
+  closed-refused r e = closing-first ∙ after-refused _ (closing s at) r e
 
 module _ (t : Table) (earliest : ℕ) (s : List ℕ) where
   -- the time isn't wholly there

@@ -1,5 +1,4 @@
 -- What is told with one report more: of its import what it says, of every other what was told before.
-use mathlib.Core.Bool.{cond}
 use mathlib.Core.List.{List, [], _∷_, _++_}
 use mathlib.Core.Path.{_≡_, refl, sym, _∙_, ap}
 use Prim.Native.Nat.{ℕ, _<_}
@@ -13,13 +12,13 @@ use Rattle.bits.specs.Bits.{listTo}
 use Rattle.bits.specs.Lists.{length-list, getD-list}
 use Rattle.table.specs.Limits.{limits}
 use Rattle.step.specs.declared.Told.{Told}
-use Rattle.step.specs.declared.ToldSlot.{ToldSlot}
 use Rattle.step.specs.declared.TruthSlot.{TruthSlot}
 use Rattle.step.specs.Steps.{Report, toldBy}
 use Rattle.step.specs.Taking.{truthAt, reportedNow, toldSlots, reportedAfter}
 
 -- a list made by counting up, changed at one place
-set-list : {A : Type 0} (d : A) (n : ℕ) (f g : ℕ → A) (i : ℕ) (a : A) → g i ≡ a → ((j : ℕ) → (j ≡ i → ⊥) → g j ≡ f j) → set (listTo n f) i a ≡ listTo n g
+set-list : {A : Type 0} (d : A) (n : ℕ) (f g : ℕ → A) (i : ℕ) (a : A) → g i ≡ a → ((j : ℕ) → (j ≡ i → ⊥) → g j ≡ f j)
+    → set (listTo n f) i a ≡ listTo n g
 set-list d n f g i a here others =
     ext-getD d (set (listTo n f) i a) (listTo n g) (length-set (listTo n f) i a ∙ length-list n f ∙ sym (length-list n g)) each
   where

@@ -34,8 +34,8 @@ pub struct Taken {
     pub reported: [TruthSlot; Table::IMPORTS],
 }
 
-// What one report tells, and the bit after it, or the refusal.
+// A report that was heard: its import, what it tells of it, and the bit after it; or the refusal.
 enum Heard {
     Refused(Refusal),
-    Told(Told, usize),
+    Report(usize, Told, usize),
 }

@@ -4,19 +4,17 @@ use crate::Taken;
 use crate::Told;
 use crate::ToldSlot;
 use crate::TruthSlot;
-use crate::report::report;
-use crate::report::reported_now;
+use crate::report::next_report;
 use bits::Field;
 use refusals::Answer;
 use refusals::Refusal;
 use table::Table;
-ghost use mathlib.Core.Bool.{false};
+use values::Truth;
 ghost use mathlib.Core.Path.{_≡_};
 ghost use Prim.Native.Nat.{_≤_};
-ghost use lib.ListN.{getD};
 ghost use Rattle.bits.specs.Reading as reading;
 ghost use Rattle.step.specs.Reader.{readStep};
-ghost use Rattle.step.specs.Taking.{takenOf};
+ghost use Rattle.step.specs.Taking.{reportedNow, takenOf};
 ghost use Rattle.step.specs.Stages.{closed, afterCount};
 
 // A refusal: nothing is told, and the reported values are as they came.
@@ -33,19 +31,20 @@ fn refused(refusal: Refusal, reported: [TruthSlot; Table::IMPORTS]) -> Taken
     }
 }
 
-// Whether an import is an event; past the slots none is.
-fn is_event(events: &[bool], i: usize) -> bool
-    ensures { λ r. ⌜ r ≡ getD (now (events .entry)) i false ⌝ }
+// This step's report of a condition, else what was reported before.
+fn reported_now(told: Told, before: Truth) -> Truth
+    ensures { λ r. ⌜ r ≡ reportedNow told before ⌝ }
 {
-    if i < events.len() {
-        return events[i];
+    match told {
+        Told::Nothing => before,
+        Told::Condition(c) => c,
+        Told::Event(_) => before,
     }
-    false
 }
 
 // "Zero bits up to a whole byte end it."
 fn close(s: &[u8], at: usize) -> Answer
-    requires { ⌜ at ≤ 65536 ⌝ }
+    requires { ⌜ at ≤ 4096 ⌝ }
     ensures { λ r. ⌜ r ≡ closed (now (s .entry)) at ⌝ }
 {
     let w = (8 - at % 8) % 8;
@@ -72,7 +71,6 @@ fn reports(
     requires { ⌜ count ≤ 63 ⌝ }
     ensures { λ r. ⌜ r ≡ takenOf earlier (afterCount t time count (now (s .entry))) ⌝ }
 {
-    let events = t.events;
     let mut told = [ToldSlot {
         told: Told::Nothing,
     }; Table::IMPORTS];
@@ -81,21 +79,11 @@ fn reports(
     let mut least: usize = 0;
     let mut left = count;
     while 0 < left {
-        let Field::There(i) = bits::field_at(s, at, 6) else {
-            return refused(Refusal::StepCut, earlier);
-        };
-        let i = i as usize;
-        if t.q <= i {
-            return refused(Refusal::StepImport, earlier);
-        }
-        if i < least {
-            return refused(Refusal::ImportOrder, earlier);
-        }
-        match report(s, at + 6, is_event(&events, i)) {
+        match next_report(s, at, t.q, least, &t.events) {
             Heard::Refused(r) => {
                 return refused(r, earlier);
             }
-            Heard::Told(news, next) => {
+            Heard::Report(i, news, next) => {
                 if i < Table::IMPORTS {
                     let slot = earlier[i];
                     let last = slot.truth;
@@ -105,9 +93,9 @@ fn reports(
                     };
                 }
                 at = next;
+                least = i + 1;
             }
         }
-        least = i + 1;
         left -= 1;
     }
     match close(s, at) {

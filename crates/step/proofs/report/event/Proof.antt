@@ -40,9 +40,9 @@ unfolding eventReport
 returns-4 c =
     let v : tie.After-value = c .before .before in
     let k : tie.After-known-told = v .before .before .before .before in
-    let end = k .before .before .before .before .before .args .at + 1 + 48 in
+    let a = k .before .before .before .before .before .args in
     rw (bit-is k, eq-eqb (k .before .bit .given .0 .0) 1 (omega arith), sym (v .before .before .field-at2 .ensures) ∙ v .value .given .1)
-    (ap (λ (z : ℤ). Heard.Told (Told.Event (Number.Whole z)) end) (toZ-ofZ w64 _ (record { sfits = c .signed .ok }) ∙ c .signed .ensures))
+    (ap (λ (z : ℤ). Heard.Report (a .i) (Told.Event (Number.Whole z)) (a .at + 1 + 48)) (toZ-ofZ w64 _ (record { sfits = c .signed .ok }) ∙ c .signed .ensures))
 
 pub event-spec : {M : Type 1} → statement M
 event-spec =
