@@ -1,5 +1,5 @@
 -- Lazy monitors, and the statement that stops each: every start and step with the fault named is stopped, not one example of it.
-use mathlib.Core.Bool.{Bool, true, false}
+use mathlib.Core.Bool.{true, false}
 use mathlib.Core.List.{List, [], _∷_}
 use mathlib.Core.Path.{_≡_, refl, sym, _∙_, ap}
 use Prim.Native.Nat.{ℕ, _+_, _^_}
@@ -11,10 +11,8 @@ use Rattle.refusals.specs.declared.Refusal.{Refusal}
 use Rattle.refusals.specs.declared.Answer.{Answer}
 use Rattle.bits.specs.Bits.{theBits}
 use Rattle.bits.specs.Twos.{theTwos}
-use Rattle.bits.specs.Reading.{got}
 use Rattle.table.specs.declared.Table.{Table}
 use Rattle.table.specs.Faults.{theFaults}
-use Rattle.step.specs.Steps.{Step}
 use Rattle.step.specs.Reader.{theStep}
 use Rattle.history.specs.History.{Judge, resultBy, theLogic}
 use Rattle.history.specs.Offered.{offered, historyOf}

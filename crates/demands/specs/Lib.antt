@@ -2,4 +2,5 @@
 pub mod Scripts
 pub mod Lazy
 pub mod Monitors
+pub mod Knows
 pub mod LazyMonitors
