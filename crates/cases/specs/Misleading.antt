@@ -57,7 +57,7 @@ flatGivens before g =
     }
 
 -- the judge of this reading
-pub undefinedForFalse : Judge
+unfoldable pub undefinedForFalse : Judge
 undefinedForFalse t past s row k =
     let places = placesOf (entryAt t k) in
     flatResult
@@ -114,7 +114,7 @@ lateGivens held g =
     }
 
 -- the judge of this reading
-pub updatesLast : Judge
+unfoldable pub updatesLast : Judge
 updatesLast t past s row k =
     let places = placesOf (entryAt t k) in
     meaning (entryAt t k) (rowAt row (places .first)) (rowAt row (places .second)) (lateGivens (heldBefore t past (places .variable)) (givensAt t past s row k))

@@ -2,9 +2,12 @@
 use denote.Ref.{now}
 use Rattle.replies.specs.Replies.{Answers}
 use Rattle.demands.specs.Scripts.{ours}
+use Rattle.demands.specs.Monitors.{ourMachine}
 use Rattle.reader.proofs.read.Reads as read
 use Rattle.parts.proofs.block.Reads as block
 use Rattle.writer.proofs.write.Reads as write
+use Rattle.monitor.proofs.start.Reads as start
+use Rattle.monitor.proofs.step.Reads as step
 
 -- what is read of any bytes
 pub reads : Answers read.Post (λ κs r s. r) (λ κs a. ours .read (now (a .0)))
@@ -21,3 +24,11 @@ writes = record { is = λ κs a r s post. post .0 }
 -- and what the destination then holds
 pub written : Answers write.Post (λ κs r s. now (s .1 .1 .0)) (λ κs a. ours .written (a .0) (now (a .1 .0)) (now (a .1 .1 .0)))
 written = record { is = λ κs a r s post. post .1 }
+
+-- what a start answers
+pub starts : Answers start.Post (λ κs r s. r) (λ κs a. ourMachine .start (a .0))
+starts = record { is = λ κs a r s post. post }
+
+-- what a step answers to any monitor and any bytes
+pub steps : Answers step.Post (λ κs r s. r) (λ κs a. ourMachine .step (a .0) (now (a .1 .0)))
+steps = record { is = λ κs a r s post. post }

@@ -1,7 +1,9 @@
 -- The monitor that a history leaves, from the history alone.
 use mathlib.Core.Bool.{cond}
-use mathlib.Core.List.{List, [], _∷_}
+use mathlib.Core.List.{List, [], _∷_, map}
 use Prim.Native.Nat.{ℕ, suc}
+use Rattle.values.specs.declared.Outcome.{Outcome}
+use Rattle.values.specs.declared.Slot.{Slot}
 use Rattle.values.specs.Truths.{isTrue, isFalse}
 use Rattle.values.specs.Outcomes.{eventIn}
 use Rattle.bits.specs.Bits.{listTo}
@@ -44,3 +46,7 @@ recallOf t h =
       held = listTo (limits .variables) (λ v. record { number = heldBefore t past v });
       cells = listTo (limits .slots) (λ k. leftBy (entryAt t k) past);
     }
+
+-- results in the slots of a step's reply
+abbrev pub slotsOf : List Outcome → List Slot
+slotsOf = map (λ o. record { outcome = o })

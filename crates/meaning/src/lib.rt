@@ -1,12 +1,12 @@
 // What each of the twenty-five kinds means at one step: where an entry looks, and what it says.
+mod looking;
+mod results;
+
+pub use looking::places_of;
+pub use results::result;
 use step::Told;
-use table::Entry;
 use values::Number;
-use values::Outcome;
 use values::Truth;
-ghost use mathlib.Core.Path.{_≡_};
-ghost use Rattle.meaning.specs.Places.{placesOf};
-ghost use Rattle.meaning.specs.Meaning.{starts, ends, meaning};
 
 // Where an entry looks: its first and second operand entry, its import and its variable; 0 where it has none.
 pub struct Places {
@@ -34,18 +34,4 @@ pub struct Givens {
     pub failed: bool,
     // the time of its event's latest occurrence, this step included
     pub latest: Number,
-}
-
-// Where an entry looks.
-pub fn places(e: Entry) -> Places
-    ensures { λ r. ⌜ r ≡ placesOf e ⌝ }
-{
-    match e {}
-}
-
-// The result of an entry, from the results x and y at its first and second operand entry and what else is given.
-pub fn result(e: Entry, x: Outcome, y: Outcome, g: Givens) -> Outcome
-    ensures { λ r. ⌜ r ≡ meaning e x y g ⌝ }
-{
-    match e {}
 }

@@ -6,6 +6,7 @@ use crate::kept::unsound;
 use crate::walk::advance;
 use refusals::Answer;
 use refusals::Refusal;
+use step::Taken;
 use step::TruthSlot;
 use table::Table;
 use table::VariableSlot;
@@ -13,8 +14,9 @@ use values::Outcome;
 use values::Slot;
 use values::Truth;
 ghost use mathlib.Core.Path.{_≡_};
-ghost use Rattle.monitor.specs.Keeping.{fresh, startOn};
-ghost use Rattle.monitor.specs.Stepping.{refusedStep, stepOf};
+ghost use Prim.Native.Nat.{_<_, _^_};
+ghost use Rattle.monitor.specs.Keeping.{unsound, fresh, startOn};
+ghost use Rattle.monitor.specs.Stepping.{refusedStep, stepReply, stepOf};
 
 // A kept time is one more than the time, and 0 where there is none.
 pub struct Monitor {
@@ -88,21 +90,28 @@ fn refused(r: Refusal, m: Monitor) -> Stepped
     }
 }
 
+// A step that was read is taken; one that was refused changes nothing.
+fn reply(m: Monitor, taken: Taken) -> Stepped
+    requires { ⌜ (unsound m ≡ Answer.Accepted) × (taken .time < 2 ^ 47) ⌝ }
+    ensures { λ r. ⌜ r ≡ stepReply (taken .answer) m taken ⌝ }
+{
+    let answer = taken.answer;
+    match answer {
+        Answer::Accepted => advance(m, taken),
+        Answer::Refused(r) => refused(r, m),
+    }
+}
+
 // A step: 29 before all else, then what the bytes say, then the entries in order.
 pub fn step(m: Monitor, s: &[u8]) -> Stepped
     ensures { λ r. ⌜ r ≡ stepOf m (now (s .entry)) ⌝ }
 {
     match unsound(m) {
-        Answer::Refused(r) => refused(r, m),
         Answer::Accepted => {
             let table = m.table;
             let reported = m.reported;
-            let taken = step::read(table, m.last, reported, s);
-            let answer = taken.answer;
-            match answer {
-                Answer::Refused(r) => refused(r, m),
-                Answer::Accepted => advance(m, taken),
-            }
+            reply(m, step::read(table, m.last, reported, s))
         }
+        Answer::Refused(fault) => refused(fault, m),
     }
 }

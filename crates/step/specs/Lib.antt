@@ -2,3 +2,8 @@
 pub mod Steps
 pub mod Reader
 pub mod Taking
+pub mod Hearing
+pub mod Telling
+pub mod Stages
+pub mod SoFar
+pub mod Laws

@@ -1,5 +1,10 @@
 // A step read from its bytes. Its meaning, bit by bit, stands in specs/.
+mod reading;
+mod report;
+
+pub use reading::read;
 use refusals::Answer;
+use refusals::Refusal;
 use table::Table;
 use values::Number;
 use values::Truth;
@@ -27,4 +32,10 @@ pub struct Taken {
     pub time: u64,
     pub told: [ToldSlot; Table::IMPORTS],
     pub reported: [TruthSlot; Table::IMPORTS],
+}
+
+// A report that was heard: its import, what it tells of it, and the bit after it; or the refusal.
+enum Heard {
+    Refused(Refusal),
+    Report(usize, Told, usize),
 }

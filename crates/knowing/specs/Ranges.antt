@@ -1,0 +1,205 @@
+-- Every number in a row is in range: a constant by 13, a sum by its definition, a time and a value by their step, a variable by what came before.
+use mathlib.Core.Bool.{Bool, true, false, cond, not, _&&_}
+use mathlib.Core.List.{List, [], _∷_, _++_}
+use mathlib.Core.Option.{Option, none, some, Option·getD}
+use mathlib.Core.Path.{_≡_, refl, sym, _∙_, ap}
+use Prim.Native.Nat.{ℕ, zero, suc, _<_, _≤_, _^_}
+use native.Mathlib.Decide.{decLt}
+use native.Mathlib.Omega.{arith}
+use lib.Dec.{eqb}
+use lib.IntN.{ℤ, pos, _+ℤ_, _-ℤ_}
+use lib.ListN.{List·getD-eq-default}
+use borrow.Author.Tests.{lt-ltb}
+use Rattle.replies.specs.Plain.{never, both-true}
+use Rattle.values.specs.declared.Number.{Number}
+use Rattle.values.specs.declared.Outcome.{Outcome}
+use Rattle.values.specs.Numbers.{inRange, fitsN, ranged, sumN, differenceN}
+use Rattle.values.specs.Outcomes.{eventIn, numberIn, isDone}
+use Rattle.refusals.specs.declared.Refusal.{Refusal}
+use Rattle.refusals.specs.declared.Answer.{Answer}
+use Rattle.refusals.specs.Numbering.{unless}
+use Rattle.refusals.specs.Accepting.{unless-accepted, accepted-first}
+use Rattle.table.specs.declared.Entry.{Entry}
+use Rattle.table.specs.declared.Entry.the-variants.{ImportedCondition, Defined, Pair, Not, Or, And, Implies, Less, Equal, ImportedEvent, Start, End, Both, Either, When, Constant, Variable, Sum, Difference, Clock, Value, Time, Update, Alarm, Property}
+use Rattle.table.specs.declared.VariableSlot.{VariableSlot}
+use Rattle.table.specs.declared.Table.{Table}
+use Rattle.table.specs.Limits.{limits}
+use Rattle.table.specs.Kinds.{Change, operandsOf, updateOf}
+use Rattle.table.specs.Tables.{Shaped, entryAt, isEvent, initialOf, zeroConstant, isUndefined, everySlot, unusedSlots}
+use Rattle.table.specs.Faults.{operandFault, operandsFault}
+use Rattle.table.specs.Sound.{Sound}
+use Rattle.sound.specs.Slots.{slot-fails}
+use Rattle.sound.specs.Firsts.{number-said}
+use Rattle.step.specs.Steps.{Step, valueIn}
+use Rattle.meaning.specs.declared.Givens.{Givens}
+use Rattle.meaning.specs.Places.{placesOf}
+use Rattle.meaning.specs.Meaning.{meaning}
+use Rattle.history.specs.History.{History, Row, Moment, rowAt, latestTime, givenBy, orElse, givenBefore, heldBefore, heldAt, givensAt, judge, rowTo, momentsBy}
+use Rattle.knowing.specs.Fitting.{StepFits, HistoryFits}
+
+-- every number in a row is in range
+abbrev pub RowFits : Row → Type 0
+RowFits row = (k : ℕ) → fitsN (numberIn (rowAt row k)) ≡ true
+
+-- a moment in range: its step, and the numbers in its row
+pub record MomentFits (m : Moment) : Type 0 where
+  pub step : StepFits (m .step)
+  pub row : RowFits (m .row)
+
+-- so is every moment
+abbrev pub MomentsFit : List Moment → Type 0
+MomentsFit [] = Unit {0}
+MomentsFit (m ∷ ms) = MomentFits m × MomentsFit ms
+
+-- what an entry looks at, in range
+record GivensFit (g : Givens) : Type 0 where
+  told : fitsN (valueIn (g .told)) ≡ true
+  clock : inRange (g .clock) ≡ true
+  held : fitsN (g .held) ≡ true
+  latest : fitsN (g .latest) ≡ true
+
+-- "A sum or difference outside the number range is undefined": what is left is in range
+ranged-fits : (z : ℤ) → fitsN (ranged z) ≡ true
+ranged-fits z = by (inRange z) refl
+  where
+    by : (b : Bool) → inRange z ≡ b → fitsN (cond b (Number.Whole z) Number.Undefined) ≡ true
+    by true e = e
+    by false e = refl
+
+-- a sum, whatever is added
+sum-fits : (a b : Number) → fitsN (sumN a b) ≡ true
+sum-fits Number.Undefined b = refl
+sum-fits (Number.Whole a) Number.Undefined = refl
+sum-fits (Number.Whole a) (Number.Whole b) = ranged-fits (a +ℤ b)
+
+-- a difference
+difference-fits : (a b : Number) → fitsN (differenceN a b) ≡ true
+difference-fits Number.Undefined b = refl
+difference-fits (Number.Whole a) Number.Undefined = refl
+difference-fits (Number.Whole a) (Number.Whole b) = ranged-fits (a -ℤ b)
+
+-- a number that an entry of a sound table gives is in range, where what it looks at is
+meaning-fits : (t : Table) (k : ℕ) (e : Entry) → operandsFault t k (operandsOf e) ≡ Answer.Accepted → (x y : Outcome) (g : Givens) → GivensFit g
+    → fitsN (numberIn (meaning e x y g)) ≡ true
+unfolding operandsOf operandsFault operandFault meaning
+meaning-fits t k (ImportedCondition i) good x y g fits = refl
+meaning-fits t k (Defined a) good x y g fits = refl
+meaning-fits t k (Pair a b) good x y g fits = refl
+meaning-fits t k (Not a) good x y g fits = refl
+meaning-fits t k (Or a b) good x y g fits = refl
+meaning-fits t k (And a b) good x y g fits = refl
+meaning-fits t k (Implies a b) good x y g fits = refl
+meaning-fits t k (Less a b) good x y g fits = refl
+meaning-fits t k (Equal a b) good x y g fits = refl
+meaning-fits t k (ImportedEvent i) good x y g fits = refl
+meaning-fits t k (Start a) good x y g fits = refl
+meaning-fits t k (End a) good x y g fits = refl
+meaning-fits t k (Both a b) good x y g fits = refl
+meaning-fits t k (Either a b) good x y g fits = refl
+meaning-fits t k (When a b) good x y g fits = refl
+meaning-fits t k (Constant z) good x y g fits = unless-accepted (inRange z) Refusal.Range (accepted-first (unless (inRange z) Refusal.Range) Answer.Accepted good)
+meaning-fits t k (Variable v) good x y g fits = fits .held
+meaning-fits t k (Sum a b) good x y g fits = sum-fits (numberIn x) (numberIn y)
+meaning-fits t k (Difference a b) good x y g fits = difference-fits (numberIn x) (numberIn y)
+meaning-fits t k Clock good x y g fits = fits .clock
+meaning-fits t k (Value i) good x y g fits = fits .told
+meaning-fits t k (Time a) good x y g fits = fits .latest
+meaning-fits t k (Update a v b) good x y g fits = refl
+meaning-fits t k (Alarm a) good x y g fits = refl
+meaning-fits t k (Property a) good x y g fits = refl
+
+-- one result more
+row-more : (row : Row) (o : Outcome) → RowFits row → fitsN (numberIn o) ≡ true → RowFits (row ++ (o ∷ []))
+row-more [] o fits here zero = here
+row-more [] o fits here (suc k) = refl
+row-more (x ∷ row) o fits here zero = fits zero
+row-more (x ∷ row) o fits here (suc k) = row-more row o (λ j. fits (suc j)) here k
+
+-- "Time of E is the time of its latest occurrence"
+latest-fits : (ms : List Moment) → MomentsFit ms → (e : ℕ) → fitsN (latestTime ms e) ≡ true
+unfolding latestTime
+latest-fits [] fits e = refl
+latest-fits (m ∷ ms) fits e =
+    elim (eventIn (rowAt (m .row) e)) as (λ b. fitsN (cond b (Number.Whole (pos (m .step .time))) (latestTime ms e)) ≡ true)
+    [ true ↦ lt-ltb (m .step .time) (2 ^ 47) (omega arith) | false ↦ latest-fits ms (fits .1) e ]
+
+-- "An update whose event occurs gives the variable that number, undefined included."
+update-fits : (u : Option Change) (o : Outcome) (row : Row) (x : ℕ) (before : Option Number) (initial : Number) → RowFits row
+    → fitsN (Option·getD before initial) ≡ true → fitsN (Option·getD (orElse (givenBy u o row x) before) initial) ≡ true
+update-fits none o row x before initial fits held = held
+update-fits (some u) o row x before initial fits held =
+    elim (isDone o && eqb (u .variable) x) as (λ b. fitsN (Option·getD (orElse (cond b (some (numberIn (rowAt row (u .number)))) none) before) initial) ≡ true)
+    [ true ↦ fits (u .number) | false ↦ held ]
+
+-- what a variable holds after the updates before k
+given-fits : (t : Table) (row : Row) (x : ℕ) (initial : Number) → RowFits row → fitsN initial ≡ true
+    → (k : ℕ) → fitsN (Option·getD (givenBefore t row x k) initial) ≡ true
+unfolding givenBefore
+given-fits t row x initial fits held zero = held
+given-fits t row x initial fits held (suc k) =
+    update-fits (updateOf (entryAt t k)) (rowAt row k) row x (givenBefore t row x k) initial fits (given-fits t row x initial fits held k)
+
+-- "unused variable slots undefined"
+unused-undefined : (t : Table) → unusedSlots t ≡ true → everySlot (t .v) (limits .variables) (λ x. isUndefined (initialOf t x)) ≡ true
+unfolding unusedSlots
+unused-undefined t unused =
+    let entries = everySlot (t .n) (limits .slots) (λ k. zeroConstant (operandsOf (entryAt t k))) in
+    let imports = everySlot (t .q) (limits .imports) (λ i. not (isEvent t i)) in
+    both-true (entries && imports) (everySlot (t .v) (limits .variables) (λ x. isUndefined (initialOf t x))) unused .1
+
+-- and what is undefined is in range
+unused-fits : (t : Table) → unusedSlots t ≡ true → (x : ℕ) → t .v ≤ x → x < limits .variables → fitsN (initialOf t x) ≡ true
+unused-fits t unused x past slot = by (initialOf t x) refl
+  where
+    by : (n : Number) → initialOf t x ≡ n → fitsN n ≡ true
+    by Number.Undefined e = refl
+    by (Number.Whole z) e =
+        never (sym (slot-fails (t .v) (limits .variables) (λ y. isUndefined (initialOf t y)) x slot past (ap isUndefined e)) ∙ unused-undefined t unused)
+
+module _ (t : Table) (shape : Shaped t) (sound : Sound t) where
+  -- the number that a variable starts with: by 13, or undefined where it is unused or no variable at all
+  initial-fits : (x : ℕ) → fitsN (initialOf t x) ≡ true
+  unfolding initialOf
+  initial-fits x = by (decLt x (t .v)) (decLt x (limits .variables))
+    where
+      by : Dec (x < t .v) → Dec (x < limits .variables) → fitsN (initialOf t x) ≡ true
+      by (yes h) slot = unless-accepted (fitsN (initialOf t x)) Refusal.Range (sym (number-said (initialOf t x)) ∙ sound .numbers x h)
+      by (no h) (yes slot) = unused-fits t (sound .unused) x (omega arith) slot
+      by (no h) (no past) = ap (λ (s : VariableSlot). fitsN (s .number)) (List·getD-eq-default (t .variables) _ (omega (arith, shape .variables)))
+
+  -- what earlier steps left in a variable
+  pub held-fits : (past : List Moment) → MomentsFit past → (x : ℕ) → fitsN (heldBefore t past x) ≡ true
+  unfolding heldBefore
+  held-fits [] fits x = initial-fits x
+  held-fits (m ∷ ms) fits x = given-fits t (m .row) x (heldBefore t ms x) (fits .0 .row) (held-fits ms (fits .1) x) (t .n)
+
+  module _ (past : List Moment) (earlier : MomentsFit past) (s : Step) (now : StepFits s) where
+    -- what entry k looks at
+    givens-fit : (row : Row) → RowFits row → (k : ℕ) → GivensFit (givensAt t past s row k)
+    unfolding givensAt heldAt
+    givens-fit row fits k =
+        let places = placesOf (entryAt t k) in
+        record {
+          told = now .values (places .imported);
+          clock = lt-ltb (s .time) (2 ^ 47) (omega arith);
+          held = given-fits t row (places .variable) (heldBefore t past (places .variable)) fits (held-fits past earlier (places .variable)) k;
+          latest = latest-fits (record { step = s; row = row } ∷ past) (record { step = now; row = fits }, earlier) (places .first);
+        }
+
+    -- entry after entry
+    row-fits : (k : ℕ) → k ≤ t .n → RowFits (rowTo judge t past s k)
+    unfolding rowTo judge
+    row-fits zero h = λ i. refl
+    row-fits (suc k) h =
+        let row = rowTo judge t past s k in
+        let before = row-fits k (omega arith) in
+        row-more row (judge t past s row k) before
+        (meaning-fits t k (entryAt t k) (sound .operands k (omega arith)) _ _ (givensAt t past s row k) (givens-fit row before k))
+
+  -- step after step
+  pub moments-fit : (h : History) → HistoryFits h → MomentsFit (momentsBy judge t h)
+  unfolding momentsBy
+  moments-fit [] fits = tt
+  moments-fit (s ∷ h) fits =
+      let past = moments-fit h (fits .1) in
+      (record { step = fits .0; row = row-fits (momentsBy judge t h) past s (fits .0) (t .n) (omega arith) }, past)
