@@ -111,17 +111,19 @@ module _ {t : Table} {count : ℕ} {before : List TruthSlot} {s : List ℕ} {tol
                 ∙ rw (ne-eqb (r .imported) i (λ same. omega arith));
           }
 
-      -- in its slots
-      pub next-stored : {told′ : List ToldSlot} {reported′ : List TruthSlot} {now : Truth} → told′ ≡ set told (r .imported) (record { told = r .told })
-          → reported′ ≡ set reported (r .imported) (record { truth = now }) → now ≡ reportedNow (r .told) (truthAt before (r .imported))
-          → SoFar t count before s told′ reported′ next (r .imported + 1) (left - 1)
-      next-stored tells leaves is = rw (tells, leaves, is) one-more
+      module _ {told′ : List ToldSlot} {reported′ : List TruthSlot} {at′ least′ left′ : ℕ}
+          (ends : at′ ≡ next) (above : least′ ≡ r .imported + 1) (fewer : left′ ≡ left - 1) where
+        -- stored in its slots
+        pub next-stored : {now : Truth} → told′ ≡ set told (r .imported) (record { told = r .told })
+            → reported′ ≡ set reported (r .imported) (record { truth = now }) → now ≡ reportedNow (r .told) (truthAt before (r .imported))
+            → SoFar t count before s told′ reported′ at′ least′ left′
+        next-stored tells leaves is = rw (tells, leaves, is, ends, above, fewer) one-more
 
-      -- past the slots nothing is stored
-      pub next-past : {told′ : List ToldSlot} {reported′ : List TruthSlot} → limits .imports ≤ r .imported → told′ ≡ told → reported′ ≡ reported
-          → SoFar t count before s told′ reported′ next (r .imported + 1) (left - 1)
-      unfolding toldSlots reportedAfter
-      next-past past tells leaves =
-          let long : length told ≡ limits .imports = ap length (sofar .tells) ∙ length-list (limits .imports) _ in
-          let wide : length reported ≡ limits .imports = ap length (sofar .leaves) ∙ length-list (limits .imports) _ in
-          rw (tells, leaves) (rw (set-out told (r .imported) _ (omega arith), set-out reported (r .imported) _ (omega arith)) at one-more)
+        -- past the slots nothing is stored
+        pub next-past : limits .imports ≤ r .imported → told′ ≡ told → reported′ ≡ reported → SoFar t count before s told′ reported′ at′ least′ left′
+        unfolding toldSlots reportedAfter
+        next-past past tells leaves =
+            let long : length told ≡ limits .imports = ap length (sofar .tells) ∙ length-list (limits .imports) _ in
+            let wide : length reported ≡ limits .imports = ap length (sofar .leaves) ∙ length-list (limits .imports) _ in
+            rw (tells, leaves, ends, above, fewer)
+            (rw (set-out told (r .imported) _ (omega arith), set-out reported (r .imported) _ (omega arith)) at one-more)
