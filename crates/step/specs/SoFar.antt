@@ -24,7 +24,7 @@ use Rattle.step.specs.Hearing.{nextReport, Rising, next-rising, reports-
 use Rattle.step.specs.Stages.{afterReports, afterCount, closed, closed-accepted, closed-refused}
 use Rattle.step.specs.Telling.{told-none, reported-none, told-more, reported-more}
 
--- of `count` reports `left` are left, from bit `at` on; the next one's import is `least` or above
+-- of `count` reports `left` are left, from bit `at` on, and the next one's import is `least` or above
 pub record SoFar (t : Table) (count : ℕ) (before : List TruthSlot) (s : List ℕ) (told : List ToldSlot) (reported : List TruthSlot) (at least left : ℕ) : Type 0 where
   -- those that were heard
   pub heard : List Report
@@ -32,8 +32,9 @@ pub record SoFar (t : Table) (count : ℕ) (before : List TruthSlot) (s : List �
   pub place : at + 55 * left ≤ 53 + 55 * count
   -- what is left decides
   pub rest : reports t count 0 [] s 53 ≡ reports t left least heard s at
-  -- what they tell
+  -- what they tell of each import
   pub tells : told ≡ toldSlots heard
+  -- the last reported values after them
   pub leaves : reported ≡ reportedAfter before heard
   -- of an import that may still come only the others tell
   pub rising : (i : ℕ) → least ≤ i → (others : List Report) → toldBy (heard ++ others) i ≡ toldBy others i
