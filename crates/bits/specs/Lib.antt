@@ -7,6 +7,7 @@ pub mod Twos
 pub mod Putting
 pub mod Holding
 pub mod Lists
+pub mod Filled
 pub mod Packing
 pub mod Putall
 pub mod Reading

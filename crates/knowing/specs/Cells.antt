@@ -32,7 +32,7 @@ use Rattle.memory.specs.Laws.{marked-mark}
 use Rattle.history.specs.History.{Moment, Row, rowAt, pairHolds}
 use Rattle.history.specs.Pairs.{pair-next}
 use Rattle.knowing.specs.Recalling.{latestKept, leftBy}
-use Rattle.knowing.specs.Filled.{list-same, list-set}
+use Rattle.bits.specs.Filled.{list-same, list-set}
 use Rattle.knowing.specs.Carrying.{Carries, a-pair, a-start, an-end, a-time, an-update, other, carries}
 
 -- before the first step no cell holds anything

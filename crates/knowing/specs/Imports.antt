@@ -13,7 +13,7 @@ use Rattle.step.specs.Steps.{Report, Step, toldBy}
 use Rattle.step.specs.Taking.{toldAt, truthAt, reportedNow, toldSlots, reportedAfter}
 use Rattle.history.specs.History.{History, LastReport, reportedAt, lastReport, lastValue}
 use Rattle.knowing.specs.Recalling.{recallOf}
-use Rattle.knowing.specs.Filled.{list-same}
+use Rattle.bits.specs.Filled.{list-same}
 
 -- what was told of an import stands in its slot
 pub told-known : (reports : List Report) (i : ℕ) → i < limits .imports → toldAt (toldSlots reports) i ≡ toldBy reports i

@@ -2,31 +2,27 @@
 use mathlib.Core.Bool.{Bool, true, false, cond}
 use mathlib.Core.List.{List, [], _∷_}
 use mathlib.Core.Path.{_≡_, _∙_, ap}
-use Prim.Native.Nat.{ℕ, suc, _<_, _≤_, _^_}
+use Prim.Native.Nat.{ℕ, _<_, _≤_, _^_}
 use native.Mathlib.Omega.{arith}
 use borrow.Author.Tests.{le-leb}
 use Rattle.values.specs.Truths.{isTrue, isFalse}
 use Rattle.values.specs.Numbers.{fitsN}
 use Rattle.values.specs.Outcomes.{eventIn}
-use Rattle.refusals.specs.declared.Refusal.{Refusal}
 use Rattle.refusals.specs.declared.Answer.{Answer}
-use Rattle.refusals.specs.Numbering.{unless}
-use Rattle.refusals.specs.Accepting.{no-fault}
 use Rattle.bits.specs.Lists.{getD-list}
 use Rattle.table.specs.declared.VariableSlot.{VariableSlot}
 use Rattle.table.specs.declared.Table.{Table}
 use Rattle.table.specs.Limits.{limits}
 use Rattle.table.specs.Tables.{Shaped, entryAt}
-use Rattle.table.specs.Faults.{numberFault, tableFault}
+use Rattle.table.specs.Faults.{tableFault}
 use Rattle.table.specs.Sound.{Sound, sound-table}
-use Rattle.sound.specs.Firsts.{number-said}
 use Rattle.meaning.specs.Places.{placesOf}
 use Rattle.memory.specs.declared.Memory.{Memory}
 use Rattle.memory.specs.Memory.{memoryOf, mark}
 use Rattle.history.specs.History.{History, Moment, rowAt, pairHolds, conditionBefore, heldBefore, judge, momentsBy}
 use Rattle.history.specs.Offered.{earliest}
-use Rattle.monitor.specs.declared.Monitor.{Monitor}
-use Rattle.monitor.specs.Keeping.{cellAt, heldIn, keptFault, unsound}
+use Rattle.monitor.specs.Keeping.{cellAt, heldIn, unsound}
+use Rattle.monitor.specs.Laws.{sound-monitor}
 use Rattle.knowing.specs.Recalling.{latestKept, left, leftBy, recallOf}
 use Rattle.knowing.specs.Fitting.{HistoryFits}
 use Rattle.knowing.specs.Ranges.{MomentsFit, held-fits, moments-fit}
@@ -59,18 +55,6 @@ left-kept Memory.Stood a b past fits = mark-kept (isTrue (conditionBefore past a
 left-kept Memory.Failed a b past fits = mark-kept (isFalse (conditionBefore past a))
 left-kept Memory.Latest a b past fits = latest-kept past fits a
 
--- no kept number or time is out of range
-kept-sound : (m : Monitor) → m .last ≤ 2 ^ 47 → ((x : ℕ) → x < limits .variables → fitsN (heldIn m x) ≡ true)
-    → ((k : ℕ) → k < limits .slots → cellAt m k ≤ 2 ^ 47) → keptFault m ≡ Answer.Accepted
-unfolding keptFault
-kept-sound m last numbers cells =
-    rw (
-      le-leb (m .last) (2 ^ 47) last,
-      no-fault (limits .variables) (λ x. numberFault (heldIn m x))
-          (λ x slot. number-said (heldIn m x) ∙ ap (λ (b : Bool). unless b Refusal.Range) (numbers x slot)),
-    )
-    (no-fault (limits .slots) _ (λ k slot. ap (λ (b : Bool). unless b Refusal.Unsound) (le-leb (cellAt m k) (2 ^ 47) (cells k slot))))
-
 module _ (t : Table) (shape : Shaped t) (sound : Sound t) (h : History) (fits : HistoryFits h) where
   -- a number that is held
   held-sound : (x : ℕ) → x < limits .variables → fitsN (heldIn (recallOf t h) x) ≡ true
@@ -91,7 +75,12 @@ module _ (t : Table) (shape : Shaped t) (sound : Sound t) (h : History) (fits : 
 
 -- "Neither falls under 29": the monitor that knows a history in range, of a table without fault
 pub recall-sound : (t : Table) → Shaped t → tableFault t ≡ Answer.Accepted → (h : History) → HistoryFits h → unsound (recallOf t h) ≡ Answer.Accepted
-unfolding unsound recallOf
+unfolding recallOf
 recall-sound t shape good h fits =
     let sound = sound-table t good in
-    rw (good, kept-sound (recallOf t h) (last-kept h fits) (held-sound t shape sound h fits) (cell-kept t shape sound h fits))
+    sound-monitor (recallOf t h) sound
+    (record {
+      last = le-leb (earliest h) (2 ^ 47) (last-kept h fits);
+      held = held-sound t shape sound h fits;
+      cells = λ k slot. le-leb (cellAt (recallOf t h) k) (2 ^ 47) (cell-kept t shape sound h fits k slot);
+    })

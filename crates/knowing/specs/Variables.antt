@@ -25,7 +25,7 @@ use Rattle.meaning.specs.Inside.{entries-earlier}
 use Rattle.meaning.specs.Meaning.{meaning}
 use Rattle.history.specs.History.{Moment, Row, rowAt, givenBy, orElse, givenBefore, heldBefore, heldAt}
 use Rattle.monitor.specs.Stepping.{heldAfter}
-use Rattle.knowing.specs.Filled.{list-set}
+use Rattle.bits.specs.Filled.{list-set}
 use Rattle.knowing.specs.Carrying.{Carries, a-pair, a-start, an-end, a-time, an-update, other, carries}
 
 -- an update gives the same number by two rows that agree before it: its number's entry stands earlier

@@ -32,7 +32,7 @@ use Rattle.monitor.specs.Keeping.{cellAt}
 use Rattle.monitor.specs.Stepping.{Walk, resultIn, heldAfter, recalled, walked, walkTo}
 use Rattle.knowing.specs.Recalling.{leftBy, recallOf}
 use Rattle.knowing.specs.Fitting.{HistoryFits}
-use Rattle.knowing.specs.Filled.{list-all, list-set}
+use Rattle.bits.specs.Filled.{list-all, list-set}
 use Rattle.knowing.specs.Rows.{row-holds, row-stays, row-others, steps-back}
 use Rattle.knowing.specs.Imports.{told-known, truth-known, reported-next}
 use Rattle.knowing.specs.Carrying.{carries}

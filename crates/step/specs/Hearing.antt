@@ -68,6 +68,7 @@ pub record Rising (t : Table) (least at : ℕ) (r : Report) (next : ℕ) : Type 
   pub narrow : r .imported < 64
   pub ends : next ≤ at + 55
 
+-- so it is with every one that is read
 pub next-rising : (t : Table) (least : ℕ) (s : List ℕ) (at : ℕ) → Gives (nextReport t least s at) (Rising t least at)
 unfolding nextReport importFault
 next-rising t least s at =

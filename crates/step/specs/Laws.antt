@@ -29,14 +29,14 @@ reports-end t (suc left) least sofar s at =
     let is : Rising t least at r next = next-rising t least s at .told r next e in
     gives-also (reports-end t left (suc (r .imported)) (sofar ++ (r ∷ [])) s next) (λ told last h. omega arith))
 
--- what ends after the reports ends within seven bits, at the end of the bytes
+-- the bytes end seven bits after the reports at most
 closing-ends : (time : ℕ) (s : List ℕ) (told : List Report) (at : ℕ)
     → Gives (afterReports time s told at) (λ step last. (step .time ≡ time) × (8 * length s ≤ at + 7))
 closing-ends time s told at =
     gives-field s at (paddingAt at) Refusal.StepCut (λ v. unless (eqb v 0) Refusal.StepPadding) _ λ zeros there good.
     gives-ended s (at + paddingAt at) Refusal.StepLeftOver _ λ end. gives-value (omega arith)
 
--- the time is 47 bits, and the step ends after the reports
+-- the time has 47 bits, and the reports end before the bytes do
 step-ends : (t : Table) (earliest : ℕ) (s : List ℕ)
     → Gives (readStep t earliest s 0) (λ step last. (step .time < 2 ^ 47) × (8 * length s ≤ 53 + 55 * t .q + 7))
 unfolding readStep

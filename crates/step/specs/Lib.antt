@@ -1,4 +1,4 @@
--- "A step, bit by bit."
+-- "A step, bit by bit": how it is read, what is taken from it, and laws of both.
 pub mod Steps
 pub mod Reader
 pub mod Taking

@@ -24,7 +24,7 @@ use Rattle.step.specs.Hearing.{nextReport, Rising, next-rising, reports-
 use Rattle.step.specs.Stages.{afterReports, afterCount, closed, closed-accepted, closed-refused}
 use Rattle.step.specs.Telling.{told-none, reported-none, told-more, reported-more}
 
--- of `count` reports `left` are left, from bit `at` on; the next one's import is `least` or above
+-- of `count` reports `left` are left, from bit `at` on, and the next one's import is `least` or above
 pub record SoFar (t : Table) (count : ℕ) (before : List TruthSlot) (s : List ℕ) (told : List ToldSlot) (reported : List TruthSlot) (at least left : ℕ) : Type 0 where
   -- those that were heard
   pub heard : List Report
@@ -32,8 +32,9 @@ pub record SoFar (t : Table) (count : ℕ) (before : List TruthSlot) (s : List �
   pub place : at + 55 * left ≤ 53 + 55 * count
   -- what is left decides
   pub rest : reports t count 0 [] s 53 ≡ reports t left least heard s at
-  -- what they tell
+  -- what they tell of each import
   pub tells : told ≡ toldSlots heard
+  -- the last reported values after them
   pub leaves : reported ≡ reportedAfter before heard
   -- of an import that may still come only the others tell
   pub rising : (i : ℕ) → least ≤ i → (others : List Report) → toldBy (heard ++ others) i ≡ toldBy others i
@@ -111,17 +112,19 @@ module _ {t : Table} {count : ℕ} {before : List TruthSlot} {s : List ℕ} {tol
                 ∙ rw (ne-eqb (r .imported) i (λ same. omega arith));
           }
 
-      -- in its slots
-      pub next-stored : {told′ : List ToldSlot} {reported′ : List TruthSlot} {now : Truth} → told′ ≡ set told (r .imported) (record { told = r .told })
-          → reported′ ≡ set reported (r .imported) (record { truth = now }) → now ≡ reportedNow (r .told) (truthAt before (r .imported))
-          → SoFar t count before s told′ reported′ next (r .imported + 1) (left - 1)
-      next-stored tells leaves is = rw (tells, leaves, is) one-more
+      module _ {told′ : List ToldSlot} {reported′ : List TruthSlot} {at′ least′ left′ : ℕ}
+          (ends : at′ ≡ next) (above : least′ ≡ r .imported + 1) (fewer : left′ ≡ left - 1) where
+        -- stored in its slots
+        pub next-stored : {now : Truth} → told′ ≡ set told (r .imported) (record { told = r .told })
+            → reported′ ≡ set reported (r .imported) (record { truth = now }) → now ≡ reportedNow (r .told) (truthAt before (r .imported))
+            → SoFar t count before s told′ reported′ at′ least′ left′
+        next-stored tells leaves is = rw (tells, leaves, is, ends, above, fewer) one-more
 
-      -- past the slots nothing is stored
-      pub next-past : {told′ : List ToldSlot} {reported′ : List TruthSlot} → limits .imports ≤ r .imported → told′ ≡ told → reported′ ≡ reported
-          → SoFar t count before s told′ reported′ next (r .imported + 1) (left - 1)
-      unfolding toldSlots reportedAfter
-      next-past past tells leaves =
-          let long : length told ≡ limits .imports = ap length (sofar .tells) ∙ length-list (limits .imports) _ in
-          let wide : length reported ≡ limits .imports = ap length (sofar .leaves) ∙ length-list (limits .imports) _ in
-          rw (tells, leaves) (rw (set-out told (r .imported) _ (omega arith), set-out reported (r .imported) _ (omega arith)) at one-more)
+        -- past the slots nothing is stored
+        pub next-past : limits .imports ≤ r .imported → told′ ≡ told → reported′ ≡ reported → SoFar t count before s told′ reported′ at′ least′ left′
+        unfolding toldSlots reportedAfter
+        next-past past tells leaves =
+            let long : length told ≡ limits .imports = ap length (sofar .tells) ∙ length-list (limits .imports) _ in
+            let wide : length reported ≡ limits .imports = ap length (sofar .leaves) ∙ length-list (limits .imports) _ in
+            rw (tells, leaves, ends, above, fewer)
+            (rw (set-out told (r .imported) _ (omega arith), set-out reported (r .imported) _ (omega arith)) at one-more)

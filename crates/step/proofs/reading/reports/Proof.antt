@@ -55,8 +55,8 @@ loop-again c =
     let i : tie.After-i Inv-loop μ-loop = c .before .before in
     let so-far = turn (i .before .before) .loop .inv in
     ⊎-elim
-    (λ w. next-stored so-far (omega arith) _ _ (heard i) (w .3) (w .4) (w .2 .ensures))
-    (λ w. next-past so-far (omega arith) _ _ (heard i) (omega arith) (w .1) (w .2))
+    (λ w. next-stored so-far (omega arith) _ _ (heard i) (omega arith) (omega arith) (omega arith) (w .3) (w .4) (w .2 .ensures))
+    (λ w. next-past so-far (omega arith) _ _ (heard i) (omega arith) (omega arith) (omega arith) (omega arith) (w .1) (w .2))
     (c .if1 .came)
 
 returns-2 : tie.Need-returns-2 Inv-loop μ-loop
