@@ -7,8 +7,15 @@ use table::VariableSlot;
 use values::Number;
 use values::Truth;
 
+// Operands of one kind at one place. Constants are compared as they are: 48 bits do not tell -1 from 2^48-1.
 fn same_operand(a: Operand, b: Operand) -> bool {
-    a.number() == b.number()
+    let Operand::Constant(x) = a else {
+        return a.number() == b.number();
+    };
+    let Operand::Constant(y) = b else {
+        return false;
+    };
+    x == y
 }
 
 fn same_entry(a: Entry, b: Entry) -> bool {
