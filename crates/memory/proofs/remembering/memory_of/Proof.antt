@@ -1,9 +1,9 @@
--- `memory::kinds::memory_of` meets its contract: in each arm the entry is the arm's, and its row computes.
+-- `memory::remembering::memory_of` meets its contract: in each arm the entry is the arm's, and its row computes.
 use borrow.Author.Needs.{needs}
 use mathlib.Core.Path.{sym, ap}
 use Rattle.memory.specs.Memory.{memoryOf}
-use Rattle.memory.proofs.kinds.memory_of.Statement.{statement}
-use Rattle.memory.proofs.kinds.memory_of.Tie as tie
+use Rattle.memory.proofs.remembering.memory_of.Statement.{statement}
+use Rattle.memory.proofs.remembering.memory_of.Tie as tie
 
 pub memory-of-spec : {M : Type 1} → statement M
 unfolding memoryOf
