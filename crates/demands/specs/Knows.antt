@@ -1,29 +1,34 @@
 -- Our start and step know the whole history: what was asked of any machine, proved of ours.
-use mathlib.Core.List.{List, [], _∷_}
+use mathlib.Core.List.{List, [], _∷_, _++_}
 use mathlib.Core.Path.{_≡_, refl, sym, _∙_, ap, subst}
-use Prim.Native.Nat.{ℕ}
+use Prim.Native.Nat.{ℕ, _-_}
+use lib.ListN.{length, replicate, List·getD-map}
+use Rattle.values.specs.declared.Outcome.{Outcome}
+use Rattle.values.specs.declared.Slot.{Slot}
 use Rattle.refusals.specs.declared.Refusal.{Refusal}
 use Rattle.refusals.specs.declared.Answer.{Answer}
+use Rattle.bits.specs.Filled.{getD-padded}
 use Rattle.bits.specs.Reading.{Got, got, refused}
 use Rattle.table.specs.declared.Table.{Table}
+use Rattle.table.specs.Limits.{limits}
 use Rattle.table.specs.Tables.{Shaped, emptyTable}
 use Rattle.table.specs.Faults.{asUnsound, tableFault, unsoundTable, theFaults}
 use Rattle.step.specs.Steps.{Step}
 use Rattle.step.specs.Taking.{takenOf}
-use Rattle.history.specs.History.{History, resultsOf}
+use Rattle.history.specs.History.{History, judge, momentsBy, latestRow, resultBy, resultAt, resultsOf}
 use Rattle.history.specs.Offered.{offered, grown, historyOf}
 use Rattle.memory.specs.Laws.{kept-time}
 use Rattle.monitor.specs.declared.Monitor.{Monitor}
 use Rattle.monitor.specs.declared.Started.{Started}
 use Rattle.monitor.specs.declared.Stepped.{Stepped}
 use Rattle.monitor.specs.Keeping.{lastTime, unsound, fresh, startReply, startOn}
-use Rattle.monitor.specs.Stepping.{refusedStep, stepReply, takenBy, soundStep, stepOf}
+use Rattle.monitor.specs.Stepping.{resultIn, refusedStep, stepReply, takenBy, soundStep, stepOf}
 use Rattle.knowing.specs.Recalling.{recallOf, slotsOf}
 use Rattle.knowing.specs.Fitting.{HistoryFits}
 use Rattle.knowing.specs.Knowing.{start-recalls, step-recalls}
 use Rattle.knowing.specs.Arriving.{history-fits}
 use Rattle.knowing.specs.Staying.{recall-sound}
-use Rattle.demands.specs.Monitors.{after, replyTo, heard, answerOf, resultsFor, keptIf, acceptedOf, lastOf, Knows, Refuses, KnowsTheHistory, ourMachine}
+use Rattle.demands.specs.Monitors.{Machine, after, replyTo, heard, answerOf, resultsFor, keptIf, acceptedOf, lastOf, SaysTheLogic, Knows, Refuses, KnowsTheHistory, ourMachine}
 
 -- what our step answers to a monitor that knows history h
 abbrev replyFor : Table → History → Got Step → Stepped
@@ -120,3 +125,16 @@ module _ (t : Table) (shaped : Shaped t) (good : tableFault t ≡ Answer.Accepte
 -- demand 2 and demand 1 for steps, of ours
 pub ours-knows : KnowsTheHistory ourMachine
 ours-knows = record { sound = λ t shaped good. knows-all t shaped good; at-fault = ours-at-fault }
+
+-- so the result in each slot is what the logic says of that entry at the new step
+pub each-result : (machine : Machine) (t : Table) → SaysTheLogic machine t → (before : List (List ℕ)) (bytes : List ℕ) (s : Step) (end : ℕ)
+    → heard t before bytes ≡ got s end → (k : ℕ) → resultIn (replyTo machine t before bytes .results) k ≡ resultAt t (s ∷ historyOf t before) k
+unfolding resultAt resultBy resultsOf
+each-result machine t says before bytes s end e k =
+    let h = historyOf t before in
+    let row = latestRow (momentsBy judge t (s ∷ h)) in
+    let none = replicate (limits .slots - length row) Outcome.Nothing in
+    let slot : Outcome → Slot = λ o. record { outcome = o } in
+    ap (λ (results : List Slot). resultIn results k) (says before bytes ∙ ap (resultsFor t h) e)
+    ∙ ap (λ (r : Slot). r .outcome) (List·getD-map slot (row ++ none) k Outcome.Nothing)
+    ∙ getD-padded row (limits .slots - length row) k Outcome.Nothing

@@ -5,4 +5,3 @@ pub mod Unsound
 pub mod Stepping
 pub mod Walking
 pub mod Replying
-pub mod Marked
