@@ -43,6 +43,11 @@ abbrev pub judged : {A : Type 0} → Answer → A → ℕ → Got A
 judged Answer.Accepted a next = got a next
 judged (Answer.Refused r) a next = refused r
 
+-- whether reading went through
+abbrev pub answered : {A : Type 0} → Got A → Answer
+answered (got a next) = Answer.Accepted
+answered (refused r) = Answer.Refused r
+
 -- what a field's answer leads to: `cut` where it isn't wholly there, else what is thought of its number
 abbrev pub taken : Refusal → (ℕ → Answer) → ℕ → Field → Got ℕ
 taken cut judge next Field.Missing = refused cut

@@ -8,7 +8,7 @@ use Rattle.values.specs.declared.Slot.{Slot}
 use Rattle.refusals.specs.declared.Refusal.{Refusal}
 use Rattle.refusals.specs.declared.Answer.{Answer}
 use Rattle.bits.specs.Filled.{getD-padded}
-use Rattle.bits.specs.Reading.{Got, got, refused}
+use Rattle.bits.specs.Reading.{Got, got, refused, answered}
 use Rattle.table.specs.declared.Table.{Table}
 use Rattle.table.specs.Limits.{limits}
 use Rattle.table.specs.Tables.{Shaped, emptyTable}
@@ -28,7 +28,7 @@ use Rattle.knowing.specs.Fitting.{HistoryFits}
 use Rattle.knowing.specs.Knowing.{start-recalls, step-recalls}
 use Rattle.knowing.specs.Arriving.{history-fits}
 use Rattle.knowing.specs.Staying.{recall-sound}
-use Rattle.demands.specs.Monitors.{Machine, after, replyTo, heard, answerOf, resultsFor, keptIf, acceptedOf, lastOf, SaysTheLogic, Knows, Refuses, KnowsTheHistory, ourMachine}
+use Rattle.demands.specs.Monitors.{Machine, after, replyTo, heard, resultsFor, keptIf, acceptedOf, lastOf, SaysTheLogic, Knows, Refuses, KnowsTheHistory, ourMachine}
 
 -- what our step answers to a monitor that knows history h
 abbrev replyFor : Table → History → Got Step → Stepped
@@ -36,7 +36,7 @@ replyFor t h (got s end) = record { answer = Answer.Accepted; monitor = recallOf
 replyFor t h (refused r) = refusedStep r (recallOf t h)
 
 -- the parts of that reply
-reply-answer : (t : Table) (h : History) (g : Got Step) → replyFor t h g .answer ≡ answerOf g
+reply-answer : (t : Table) (h : History) (g : Got Step) → replyFor t h g .answer ≡ answered g
 reply-answer t h (got s end) = refl
 reply-answer t h (refused r) = refl
 

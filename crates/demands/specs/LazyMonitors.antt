@@ -11,6 +11,7 @@ use Rattle.refusals.specs.declared.Refusal.{Refusal}
 use Rattle.refusals.specs.declared.Answer.{Answer}
 use Rattle.bits.specs.Bits.{theBits}
 use Rattle.bits.specs.Twos.{theTwos}
+use Rattle.bits.specs.Reading.{answered}
 use Rattle.table.specs.declared.Table.{Table}
 use Rattle.table.specs.Faults.{theFaults}
 use Rattle.step.specs.Reader.{theStep}
@@ -22,7 +23,7 @@ use Rattle.monitor.specs.Keeping.{unsound, startOn, theKeeping}
 use Rattle.monitor.specs.Stepping.{resultIn, stepOf, theStepping}
 use Rattle.cases.specs.Gate.{gate}
 use Rattle.cases.specs.Misleading.{undefinedForFalse, updatesLast}
-use Rattle.demands.specs.Monitors.{Machine, after, replyTo, heard, answerOf, resultsFor, SaysTheLogic, AnswersAsDefined, NeverUnsound, Knows, KnowsTheHistory}
+use Rattle.demands.specs.Monitors.{Machine, after, replyTo, heard, resultsFor, SaysTheLogic, AnswersAsDefined, NeverUnsound, Knows, KnowsTheHistory}
 
 -- steps for the table of a condition, its start and its end: the condition is reported true, or false, at a time
 abbrev trueAt1 : List ℕ
@@ -52,7 +53,7 @@ unfolding theBits theTwos theFaults theStep theLogic offered historyOf
 start-once = (refl, (refl, refl))
 
 -- each is accepted
-each-heard : (answerOf (heard startAndEnd [] trueAt1) ≡ Answer.Accepted) × (answerOf (heard startAndEnd (trueAt1 ∷ []) trueAt2) ≡ Answer.Accepted)
+each-heard : (answered (heard startAndEnd [] trueAt1) ≡ Answer.Accepted) × (answered (heard startAndEnd (trueAt1 ∷ []) trueAt2) ≡ Answer.Accepted)
 unfolding theBits theTwos theFaults theStep theLogic offered historyOf
 each-heard = (refl, refl)
 

@@ -7,7 +7,7 @@ use Rattle.values.specs.declared.Number.{Number}
 use Rattle.values.specs.declared.Slot.{Slot}
 use Rattle.refusals.specs.declared.Refusal.{Refusal}
 use Rattle.refusals.specs.declared.Answer.{Answer}
-use Rattle.bits.specs.Reading.{Got, got, refused}
+use Rattle.bits.specs.Reading.{Got, got, refused, answered}
 use Rattle.table.specs.declared.Table.{Table}
 use Rattle.table.specs.Tables.{Shaped, emptyTable}
 use Rattle.table.specs.Faults.{tableFault}
@@ -39,11 +39,6 @@ replyTo machine t before bytes = machine .step (after machine t before) bytes
 abbrev pub heard : Table → List (List ℕ) → List ℕ → Got Step
 heard t before bytes = offered t (historyOf t before) bytes
 
--- acceptance, or the refusal
-abbrev pub answerOf : Got Step → Answer
-answerOf (got s end) = Answer.Accepted
-answerOf (refused r) = Answer.Refused r
-
 -- what the logic says at the new step of the history; 128 times "no result" where it is refused
 abbrev pub resultsFor : Table → History → Got Step → List Slot
 resultsFor t h (got s end) = slotsOf (resultsOf t (s ∷ h))
@@ -70,7 +65,7 @@ SaysTheLogic machine t = (before : List (List ℕ)) (bytes : List ℕ) → reply
 
 -- (b) a step is accepted exactly when the definition accepts it, and its number is the definition's otherwise
 abbrev pub AnswersAsDefined : Machine → Table → Type 0
-AnswersAsDefined machine t = (before : List (List ℕ)) (bytes : List ℕ) → replyTo machine t before bytes .answer ≡ answerOf (heard t before bytes)
+AnswersAsDefined machine t = (before : List (List ℕ)) (bytes : List ℕ) → replyTo machine t before bytes .answer ≡ answered (heard t before bytes)
 
 -- (c) "started on a sound table it is never refused later": the monitor of a start or a step doesn't fall under 29
 abbrev pub NeverUnsound : Machine → Table → Type 0

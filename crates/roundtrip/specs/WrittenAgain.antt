@@ -9,14 +9,14 @@ use lib.Seq.{drop-append-seam}
 use Rattle.refusals.specs.declared.Refusal.{Refusal}
 use Rattle.refusals.specs.declared.Answer.{Answer}
 use Rattle.bits.specs.Bits.{bitsOfAll, bytesOf}
-use Rattle.bits.specs.Reading.{Got, got, refused, onward, onward-onward, _>>=_, ended}
+use Rattle.bits.specs.Reading.{Got, got, refused, answered, onward, onward-onward, _>>=_, ended}
 use Rattle.table.specs.declared.Table.{Table}
 use Rattle.table.specs.Limits.{limits}
 use Rattle.table.specs.Tables.{Shaped, labelsBefore}
 use Rattle.table.specs.Faults.{tableFault}
 use Rattle.script.specs.Labels.{labels}
 use Rattle.script.specs.Reader.{wholeScript, scriptOf, scriptReply, readScript, blockOf}
-use Rattle.script.specs.Writer.{tableParts, scriptBytes, answered, blockFault, writerFault}
+use Rattle.script.specs.Writer.{tableParts, scriptBytes, blockFault, writerFault}
 use Rattle.refusals.specs.Accepting.{not-accepted, unless-accepted, accepted-first, accepted-second}
 use Rattle.table.specs.Sound.{sound-table}
 use Rattle.roundtrip.specs.WrittenTable.{packed-again}

@@ -10,7 +10,7 @@ use Rattle.refusals.specs.declared.Answer.{Answer}
 use Rattle.refusals.specs.Numbering.{unless, andThen}
 use Rattle.bits.specs.Bits.{Part, bitsOfAll, bytesOf}
 use Rattle.bits.specs.Twos.{unsigned}
-use Rattle.bits.specs.Reading.{Got, got, refused, _>>=_, ended}
+use Rattle.bits.specs.Reading.{answered, _>>=_, ended}
 use Rattle.table.specs.declared.Entry.{Entry}
 use Rattle.table.specs.declared.Table.{Table}
 use Rattle.table.specs.Limits.{limits}
@@ -58,11 +58,6 @@ tableParts t =
 -- the script of a table and its labels
 unfoldable pub scriptBytes : Table → List ℕ → List ℕ
 scriptBytes t block = bytesOf (bitsOfAll (tableParts t)) ++ block
-
--- whether reading went through
-abbrev pub answered : Got ℕ → Answer
-answered (got a next) = Answer.Accepted
-answered (refused r) = Answer.Refused r
 
 -- "the block (2, 10, 11)"
 unfoldable pub blockFault : Table → List ℕ → Answer

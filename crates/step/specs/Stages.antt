@@ -8,7 +8,7 @@ use Rattle.refusals.specs.declared.Refusal.{Refusal}
 use Rattle.refusals.specs.declared.Answer.{Answer}
 use Rattle.bits.specs.declared.Field.{Field}
 use Rattle.bits.specs.Bits.{fieldAt}
-use Rattle.bits.specs.Reading.{Got, got, refused, onward, onward-onward, _>>=_, Reading, padding, ended}
+use Rattle.bits.specs.Reading.{Got, got, refused, answered, onward, onward-onward, _>>=_, Reading, padding, ended}
 use Rattle.table.specs.declared.Table.{Table}
 use Rattle.step.specs.declared.TruthSlot.{TruthSlot}
 use Rattle.step.specs.declared.Taken.{Taken}
@@ -34,23 +34,18 @@ afterCount t time count s = onward (reports t count 0 [] s 53) (afterReports tim
 pub taken-whole : (before : List TruthSlot) {taken : Taken} {whole rest : Got Step} → taken ≡ takenOf before rest → whole ≡ rest → taken ≡ takenOf before whole
 taken-whole before e is = e ∙ sym (ap (takenOf before) is)
 
--- whether a reading was refused
-abbrev answerOf : Got ℕ → Answer
-answerOf (got end next) = Answer.Accepted
-answerOf (refused r) = Answer.Refused r
-
 -- whether a step ends here as it should
 unfoldable pub closed : List ℕ → ℕ → Answer
-closed s at = answerOf (closing s at)
+closed s at = answered (closing s at)
 
 -- a step after a reading that was not refused
-after-accepted : (before : List TruthSlot) (step : Step) (m : Got ℕ) → answerOf m ≡ Answer.Accepted
+after-accepted : (before : List TruthSlot) (step : Step) (m : Got ℕ) → answered m ≡ Answer.Accepted
     → takenOf before (onward m (λ end last. got step last)) ≡ takenOf before (got step 0)
 after-accepted before step (got end next) e = refl
 after-accepted before step (refused r) e = let z : _≡_ {A = ℕ} 0 1 = cc in absurd (omega arith)
 
 -- and after one that was
-after-refused : (step : Step) (m : Got ℕ) (r : Refusal) → answerOf m ≡ Answer.Refused r → onward m (λ end last. got step last) ≡ refused r
+after-refused : (step : Step) (m : Got ℕ) (r : Refusal) → answered m ≡ Answer.Refused r → onward m (λ end last. got step last) ≡ refused r
 after-refused step (got end next) r e = let z : _≡_ {A = ℕ} 0 1 = cc in absurd (omega arith)
 after-refused step (refused q) r e = cc
 

@@ -14,14 +14,14 @@ use Rattle.bits.specs.Bits.{bitsOfAll, bytesOf}
 use Rattle.bits.specs.Holding.{Bytes, widthOfAll}
 use Rattle.bits.specs.Packing.{padded, width-padded, length-packed}
 use Rattle.bits.specs.Putall.{put-packed}
-use Rattle.bits.specs.Reading.{Got, got, refused}
+use Rattle.bits.specs.Reading.{Got, got, refused, answered}
 use Rattle.table.specs.declared.Table.{Table}
 use Rattle.table.specs.Limits.{limits}
 use Rattle.table.specs.Tables.{labelsBefore}
 use Rattle.table.specs.Faults.{tableFault}
 use Rattle.script.specs.declared.Span.{Span}
 use Rattle.script.specs.Orders.{table-first, block-next}
-use Rattle.script.specs.Writer.{tableParts, scriptBytes, answered, blockFault, writerFault, writeScript, writeBytes}
+use Rattle.script.specs.Writer.{tableParts, scriptBytes, blockFault, writerFault, writeScript, writeBytes}
 use Rattle.labels.specs.Among.{amongReply, labelsToEnd, labelAfter, labelAmong}
 use Rattle.refusals.specs.Accepting.{accepted-first, accepted-second, unless-accepted}
 use Rattle.table.specs.Sound.{Within, sound-table}
