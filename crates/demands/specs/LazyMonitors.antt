@@ -103,12 +103,13 @@ StuckAfterStart machine t = (bytes : List ℕ) → replyTo machine t [] bytes .a
 pub stuck-start-stopped : (machine : Machine) → AnswersAsDefined machine startAndEnd → StuckAfterStart machine startAndEnd → ⊥
 stuck-start-stopped machine answers stuck = stuck trueAt1 (answers [] trueAt1 ∙ each-heard .0)
 
--- "or a step that leaves a monitor which then refuses everything"
+-- "or a step that leaves a monitor which then refuses everything": an accepted step
 abbrev pub StuckAfterStep : Machine → Table → Type 0
-StuckAfterStep machine t = (first next : List ℕ) → replyTo machine t (first ∷ []) next .answer ≡ Answer.Accepted → ⊥
+StuckAfterStep machine t = (first next : List ℕ) → replyTo machine t [] first .answer ≡ Answer.Accepted
+    → replyTo machine t (first ∷ []) next .answer ≡ Answer.Accepted → ⊥
 
 pub stuck-step-stopped : (machine : Machine) → AnswersAsDefined machine startAndEnd → StuckAfterStep machine startAndEnd → ⊥
-stuck-step-stopped machine answers stuck = stuck trueAt1 trueAt2 (answers (trueAt1 ∷ []) trueAt2 ∙ each-heard .1)
+stuck-step-stopped machine answers stuck = stuck trueAt1 trueAt2 (answers [] trueAt1 ∙ each-heard .0) (answers (trueAt1 ∷ []) trueAt2 ∙ each-heard .1)
 
 -- "breaks the rule that neither's monitor falls under 29": a monitor whose last time is out of range
 abbrev jammed : Monitor → Monitor
@@ -137,19 +138,21 @@ not-refused accepted refused = let z : _≡_ {A = ℕ} 0 1 = cc in omega arith
 pub jams-stopped : (NeverUnsound jamsAtStart startAndEnd → ⊥) × (NeverUnsound jamsAtStep startAndEnd → ⊥)
 jams-stopped = (λ never. not-refused (never []) (jams .0), λ never. not-refused (never (trueAt1 ∷ [])) (jams .1))
 
--- a machine whose results are those of another judge than document 01's
+-- a machine whose results, at every accepted step, are those of another judge than document 01's; a refused step may have any
 abbrev pub JudgesBy : Judge → Machine → Table → Type 0
-JudgesBy by machine t = (before : List (List ℕ)) (bytes : List ℕ) (k : ℕ)
+JudgesBy by machine t = (before : List (List ℕ)) (bytes : List ℕ) (k : ℕ) → answered (heard t before bytes) ≡ Answer.Accepted
     → resultIn (replyTo machine t before bytes .results) k ≡ resultBy by t (historyOf t (bytes ∷ before)) k
 
 -- "false at the first step: end occurs"; where undefined is taken for false, it does not
-end-at-once : (saidOf startAndEnd [] falseAt1 2 ≡ Outcome.Event true) × (resultBy undefinedForFalse startAndEnd (historyOf startAndEnd (falseAt1 ∷ [])) 2 ≡ Outcome.Event false)
+end-at-once : (saidOf startAndEnd [] falseAt1 2 ≡ Outcome.Event true)
+    × ((resultBy undefinedForFalse startAndEnd (historyOf startAndEnd (falseAt1 ∷ [])) 2 ≡ Outcome.Event false)
+    × (answered (heard startAndEnd [] falseAt1) ≡ Answer.Accepted))
 unfolding theBits theTwos theFaults theStep theLogic offered historyOf undefinedForFalse
-end-at-once = (refl, refl)
+end-at-once = (refl, (refl, refl))
 
 -- "Taking undefined for false"
 pub undefined-for-false-stopped : (machine : Machine) → SaysTheLogic machine startAndEnd → JudgesBy undefinedForFalse machine startAndEnd → ⊥
-undefined-for-false-stopped machine says judges = not-both (gives machine startAndEnd says [] falseAt1 2 ∙ end-at-once .0) (judges [] falseAt1 2 ∙ end-at-once .1)
+undefined-for-false-stopped machine says judges = not-both (gives machine startAndEnd says [] falseAt1 2 ∙ end-at-once .0) (judges [] falseAt1 2 (end-at-once .1 .1) ∙ end-at-once .1 .0)
 
 -- two closings of document 003's gate, as they are offered: 1000 closed, not down; 5000 down; 90000 opened, not down; 100000 closed
 abbrev earlierSteps : List (List ℕ)
@@ -164,14 +167,15 @@ secondClosing = 0x00 ∷ 0x00 ∷ 0x00 ∷ 0x03 ∷ 0x0D ∷ 0x40 ∷ 0x08 ∷ 0
 
 -- the gate has only just been told to close; a read that sees no update of this step calls it late
 gate-in-time : (saidOf gate earlierSteps secondClosing 16 ≡ Outcome.Property Truth.True)
-    × (resultBy updatesLast gate (historyOf gate (secondClosing ∷ earlierSteps)) 16 ≡ Outcome.Property Truth.False)
+    × ((resultBy updatesLast gate (historyOf gate (secondClosing ∷ earlierSteps)) 16 ≡ Outcome.Property Truth.False)
+    × (answered (heard gate earlierSteps secondClosing) ≡ Answer.Accepted))
 unfolding theBits theTwos theFaults theStep theLogic offered historyOf updatesLast
-gate-in-time = (refl, refl)
+gate-in-time = (refl, (refl, refl))
 
 -- "Evaluating all conditions before all updates"
 pub updates-last-stopped : (machine : Machine) → SaysTheLogic machine gate → JudgesBy updatesLast machine gate → ⊥
 updates-last-stopped machine says judges =
     let right = gives machine gate says earlierSteps secondClosing 16 ∙ gate-in-time .0 in
-    let wrong = judges earlierSteps secondClosing 16 ∙ gate-in-time .1 in
+    let wrong = judges earlierSteps secondClosing 16 (gate-in-time .1 .1) ∙ gate-in-time .1 .0 in
     let z : _≡_ {A = ℕ} 0 1 = cc in
     omega arith
