@@ -2,8 +2,7 @@
 use refusals::Answer;
 ghost use mathlib.Core.Path.{_≡_};
 ghost use Prim.Native.Nat.{_+_};
-ghost use lib.ListN.{take, drop};
-ghost use Rattle.script.specs.Reader.{labelOf, blockOf};
+ghost use Rattle.script.specs.Reader.{labelOf, textOf, blockOf};
 ghost use Rattle.reader.specs.Scans.{blockSpan};
 ghost use Rattle.parts.specs.Shown.{outcomeNumber, scriptNumber};
 
@@ -19,7 +18,7 @@ pub fn outcome(answer: Answer) -> u8
 
 // "A label is shown as the part of the script where its text stands; refused (script numbers, then 30), the part is empty."
 pub fn label<'a>(s: &'a [u8], k: usize, number: &mut u8) -> &'a [u8]
-    ensures text { λ r. ⌜ now r ≡ take (labelOf (now (s .entry)) k .span .size) (drop (labelOf (now (s .entry)) k .span .from) (now (s .entry))) ⌝ }
+    ensures text { λ r. ⌜ now r ≡ textOf (now (s .entry)) (labelOf (now (s .entry)) k) ⌝ }
     ensures place { λ r. ⌜ (r .ptr .0 ≡ s .entry .ptr .0) × (r .ptr .1 ≡ s .entry .ptr .1 + labelOf (now (s .entry)) k .span .from) ⌝ }
     ensures number { λ r. ⌜ now (number .exit) ≡ outcomeNumber (labelOf (now (s .entry)) k .answer) ⌝ }
 {

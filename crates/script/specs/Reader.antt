@@ -3,7 +3,7 @@ use mathlib.Core.Bool.{Bool, cond, _&&_, _||_}
 use mathlib.Core.List.{List, [], _∷_}
 use Prim.Native.Nat.{ℕ, zero, suc, _/_}
 use lib.Dec.{leb, ltb, eqb}
-use lib.ListN.{length, getD, set, drop}
+use lib.ListN.{length, getD, set, take, drop}
 use Rattle.values.specs.declared.Number.{Number}
 use Rattle.refusals.specs.declared.Refusal.{Refusal}
 use Rattle.refusals.specs.declared.Answer.{Answer}
@@ -179,6 +179,10 @@ labelIn s k (refused r) = noLabel r
 -- "A label is shown as the part of the script where its text stands; refused (script numbers, then 30), the part is empty."
 unfoldable pub labelOf : List ℕ → ℕ → Label
 labelOf s k = labelIn s k (scriptOf s)
+
+-- the text of a label, which is a part of the script
+abbrev pub textOf : List ℕ → Label → List ℕ
+textOf script l = take (l .span .size) (drop (l .span .from) script)
 
 -- the labels of a script as they are stored: what follows the table
 abbrev pub blockAfter : List ℕ → Got Table → List ℕ

@@ -2,20 +2,15 @@
 use mathlib.Core.Bool.{Bool, true, false}
 use mathlib.Core.List.{List, [], _∷_, _++_}
 use Prim.Native.Nat.{ℕ, zero, suc}
-use lib.ListN.{take, drop}
 use Rattle.bits.specs.Reading.{Got, got, refused}
 use Rattle.table.specs.declared.Table.{Table}
-use Rattle.script.specs.declared.Label.{Label}
-use Rattle.script.specs.Reader.{scriptOf, labelOf}
+use Rattle.script.specs.Reader.{scriptOf, labelOf, textOf}
 use Rattle.step.specs.Steps.{Step}
 use Rattle.history.specs.History.{History, Row, rowAt, latestRow, momentsBy, judge}
 use Rattle.history.specs.Offered.{offered, grown}
 use Rattle.stream.specs.Records.{recordsOf}
-use Rattle.stream.specs.Lines.{scriptLine, scriptRefusedLine, refusedLine, cutLine, lastLine, resultLine}
-
--- the text of a label, which is a part of the script
-abbrev pub textOf : List ℕ → Label → List ℕ
-textOf script l = take (l .span .size) (drop (l .span .from) script)
+use Rattle.lines.specs.Text.{scriptLine, scriptRefusedLine}
+use Rattle.stream.specs.Lines.{refusedLine, cutLine, lastLine, resultLine}
 
 -- the lines of a step's results, "in ... entry order"
 unfoldable pub rowLines : List ℕ → ℕ → Row → ℕ → List ℕ

@@ -1,0 +1,2 @@
+-- Two histories that agree on what a rule reaches give it the same results.
+pub mod Agreeing

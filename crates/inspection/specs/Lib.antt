@@ -1,0 +1,2 @@
+-- What `inspect` shows of a script.
+pub mod Inspected

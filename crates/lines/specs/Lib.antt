@@ -1,0 +1,3 @@
+-- Lines of text: numbers, words and fields, and how they are laid into a destination.
+pub mod Text
+pub mod Laying

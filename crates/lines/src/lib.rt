@@ -1,0 +1,40 @@
+// Lines of text laid into a lent destination, as far as there is room.
+ghost use mathlib.Core.List.{[], _∷_};
+ghost use Rattle.lines.specs.Text.{decimal};
+ghost use Rattle.lines.specs.Laying.{Lays};
+
+// One byte; where the next one goes.
+pub fn put_byte(out: &mut [u8], at: usize, b: u8) -> usize
+    ensures { λ r. ⌜ Lays (now (out .entry)) at (b ∷ []) (now (out .exit)) r ⌝ }
+{
+    if at < out.len() {
+        out[at] = b;
+        at + 1
+    } else {
+        at
+    }
+}
+
+// A text, byte by byte.
+pub fn put(out: &mut [u8], at: usize, text: &[u8]) -> usize
+    ensures { λ r. ⌜ Lays (now (out .entry)) at (now (text .entry)) (now (out .exit)) r ⌝ }
+{
+    let mut next = at;
+    let mut i: usize = 0;
+    while i < text.len() {
+        next = put_byte(out, next, text[i]);
+        i += 1;
+    }
+    next
+}
+
+// A number in decimal digits, with no leading zero.
+pub fn put_decimal(out: &mut [u8], at: usize, n: u64) -> usize
+    ensures { λ r. ⌜ Lays (now (out .entry)) at (decimal n) (now (out .exit)) r ⌝ }
+{
+    if n < 10 {
+        return put_byte(out, at, 48 + n as u8);
+    }
+    let next = put_decimal(out, at, n / 10);
+    put_byte(out, next, 48 + (n % 10) as u8)
+}
