@@ -1,5 +1,6 @@
 // Lines of text laid into a lent destination, as far as there is room.
 ghost use mathlib.Core.List.{[], _∷_};
+ghost use Prim.Native.Nat.{_+_, _%_};
 ghost use Rattle.lines.specs.Text.{decimal};
 ghost use Rattle.lines.specs.Laying.{Lays};
 
@@ -28,13 +29,20 @@ pub fn put(out: &mut [u8], at: usize, text: &[u8]) -> usize
     next
 }
 
+// The last decimal digit of a number.
+fn put_digit(out: &mut [u8], at: usize, n: u64) -> usize
+    ensures { λ r. ⌜ Lays (now (out .entry)) at ((48 + n % 10) ∷ []) (now (out .exit)) r ⌝ }
+{
+    put_byte(out, at, 48 + (n % 10) as u8)
+}
+
 // A number in decimal digits, with no leading zero.
 pub fn put_decimal(out: &mut [u8], at: usize, n: u64) -> usize
     ensures { λ r. ⌜ Lays (now (out .entry)) at (decimal n) (now (out .exit)) r ⌝ }
 {
     if n < 10 {
-        return put_byte(out, at, 48 + n as u8);
+        return put_digit(out, at, n);
     }
     let next = put_decimal(out, at, n / 10);
-    put_byte(out, next, 48 + (n % 10) as u8)
+    put_digit(out, next, n)
 }

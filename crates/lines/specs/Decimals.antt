@@ -1,0 +1,42 @@
+-- Laws of decimal digits: the last digit is the remainder, the others are those of the quotient.
+use mathlib.Core.List.{List, [], _∷_, _++_}
+use mathlib.Core.Path.{_≡_, refl, sym, ap, subst}
+use Prim.Native.Nat.{ℕ, zero, suc, _+_, _/_, _%_, _<_, _≤_}
+use native.Mathlib.Decide.{decLt}
+use native.Mathlib.Nat.{not-suc-le-zero}
+use native.Mathlib.Omega.{arith}
+use borrow.Author.Tests.{lt-ltb, le-ltb}
+use Rattle.lines.specs.Text.{digitsTo, decimal}
+use Rattle.lines.specs.Laying.{Lays, lays-then}
+
+-- as many digits as there may be, where that is enough, don't matter
+digits-enough : (most more n : ℕ) → n < most → n < more → digitsTo most n ≡ digitsTo more n
+unfolding digitsTo
+digits-enough zero more n enough also = absurd (not-suc-le-zero enough)
+digits-enough (suc most) zero n enough also = absurd (not-suc-le-zero also)
+digits-enough (suc most) (suc more) n enough also =
+    elim (decLt n 10) [
+      | yes l ↦ rw (lt-ltb n 10 l) refl
+      | no h ↦ rw (le-ltb n 10 (omega arith)) (ap (λ (d : List ℕ). d ++ ((48 + n % 10) ∷ [])) (digits-enough most more (n / 10) (omega arith) (omega arith)))
+    ]
+
+-- one digit
+pub decimal-one : (n : ℕ) → n < 10 → decimal n ≡ (48 + n % 10) ∷ []
+unfolding decimal digitsTo
+decimal-one n small = let one : n ≡ n % 10 = omega arith in rw (lt-ltb n 10 small) (ap (λ (m : ℕ). (48 + m) ∷ []) one)
+
+-- more than one
+pub decimal-more : (n : ℕ) → 10 ≤ n → decimal n ≡ decimal (n / 10) ++ ((48 + n % 10) ∷ [])
+unfolding decimal digitsTo
+decimal-more n large =
+    rw (le-ltb n 10 large) (ap (λ (d : List ℕ). d ++ ((48 + n % 10) ∷ [])) (digits-enough n (suc (n / 10)) (n / 10) (omega arith) (omega arith)))
+
+-- a number of one digit, laid
+pub lays-digit : {dst after : List ℕ} {at next : ℕ} (n : ℕ) → n < 10 → Lays dst at ((48 + n % 10) ∷ []) after next → Lays dst at (decimal n) after next
+lays-digit {dst} {after} {at} {next} n small lays = subst (λ (x : List ℕ). Lays dst at x after next) (sym (decimal-one n small)) lays
+
+-- a number of more digits, laid: those of the quotient, then the last
+pub lays-digits : {dst mid after : List ℕ} {at place next : ℕ} (n : ℕ) → 10 ≤ n → Lays dst at (decimal (n / 10)) mid place
+    → Lays mid place ((48 + n % 10) ∷ []) after next → Lays dst at (decimal n) after next
+lays-digits {dst} {after = after} {at} {next = next} n large some last =
+    subst (λ (x : List ℕ). Lays dst at x after next) (sym (decimal-more n large)) (lays-then some last)
