@@ -1,6 +1,6 @@
 -- What a reach shows is one thing only: the worked-out marks.
 use mathlib.Core.Bool.{Bool, true, false, _&&_}
-use mathlib.Core.List.{List, [], _∷_, _++_}
+use mathlib.Core.List.{List, _∷_}
 use mathlib.Core.Path.{_≡_, refl, sym, _∙_, ap, subst}
 use Prim.Native.Nat.{ℕ, _<_, _≤_}
 use native.Mathlib.Decide.{decLt}
@@ -50,7 +50,7 @@ reach-asked t k good =
     let parts = asked (tableFault t) (unless (ltb k (t .n)) Refusal.NoEntry) good in
     (parts .0, ltb-true k (t .n) (unless-accepted (ltb k (t .n)) Refusal.NoEntry (parts .1)))
 
--- marks keep their entries in slots that are enough for them
+-- marks laid into slots, of which there are enough, are the same marks
 slots-keep : (slots : ℕ) (marks : List Bool) → length marks ≤ slots → (j : ℕ) → getD (listTo slots (setOf marks)) j false ≡ setOf marks j
 slots-keep slots marks room j =
     elim (decLt j slots) [
@@ -123,9 +123,8 @@ shown-same : (t : Table) (k : ℕ) (a b : Reach) → a .answer ≡ b .answer →
 shown-same t k a b answer x y =
     let marked : markedIn a ≡ markedIn b = λ i j. marked-same t k a b x y j i in
     let entries = ext-getD false (a .entries) (b .entries) (x .slots .0 ∙ sym (y .slots .0)) (λ j h. marked-same t k a b x y j) in
-    let imports =
-    ext-getD false (a .imports) (b .imports) (x .slots .1 ∙ sym (y .slots .1))
-    (λ i h. x .imports i ∙ ap (λ (S : Entries). reachesImport t S i) marked ∙ sym (y .imports i)) in
+    let reached : reachesImport t (markedIn a) ≡ reachesImport t (markedIn b) = ap (reachesImport t) marked in
+    let imports = ext-getD false (a .imports) (b .imports) (x .slots .1 ∙ sym (y .slots .1)) (λ i h. x .imports i ∙ ap (λ f. f i) reached ∙ sym (y .imports i)) in
     let clock = x .clock ∙ ap (reachesClock t) marked ∙ sym (y .clock) in
     λ i. record { answer = answer i; entries = entries i; imports = imports i; clock = clock i }
 

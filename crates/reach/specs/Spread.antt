@@ -1,59 +1,51 @@
 -- The worked-out set is the least one.
-use mathlib.Core.Bool.{Bool, true, false, _&&_, _||_}
+use mathlib.Core.Bool.{Bool, false}
 use mathlib.Core.List.{List}
 use mathlib.Core.Path.{_≡_, sym, _∙_, ap, subst}
 use Prim.Native.Nat.{ℕ, zero, suc, _<_, _≤_}
 use native.Mathlib.Decide.{decLe}
 use native.Mathlib.Omega.{arith}
-use lib.Dec.{T, eqb, eqb→eq, eqb-refl}
+use lib.Dec.{T, eqb→eq, eqb-refl}
 use lib.ListN.{length}
 use Rattle.bits.specs.Lists.{length-list, getD-list}
 use Rattle.table.specs.declared.Table.{Table}
-use Rattle.table.specs.Below.{someBelow, both-parts, both-joined, either-split, either-left, either-right, some-found, some-here}
+use Rattle.table.specs.Below.{both-parts, both-joined, either-split, either-left, either-right, some-found, some-here}
 use Rattle.reach.specs.Reaching.{Entries, leadsTo, Closed, Least}
 use Rattle.reach.specs.Counting.{countOf, count-le, count-some, count-same}
 use Rattle.reach.specs.Spreading.{setOf, alone, spread, spreadTo, reachedFrom}
 
 module _ (leads : ℕ → ℕ → Bool) (n : ℕ) where
-  -- once over there are as many marks as entries
+  -- there is a mark for each entry
   length-spread : (marks : List Bool) → length (spread leads n marks) ≡ n
   unfolding spread
   length-spread marks = length-list n _
 
-  -- an entry is marked if it was, or if one that was leads to it
-  spread-at : (marks : List Bool) (o : ℕ) → o < n
-      → setOf (spread leads n marks) o ≡ (setOf marks o || someBelow n (λ j. setOf marks j && leads j o))
-  unfolding spread
-  spread-at marks o h = getD-list n _ o false h
-
-  -- what is marked stays marked
-  spread-keeps : (marks : List Bool) (o : ℕ) → o < n → T (setOf marks o) → T (setOf (spread leads n marks) o)
-  spread-keeps marks o h held = rw (spread-at marks o h) (either-left (setOf marks o) _ held)
-
-  -- and all that it leads to is marked
-  spread-leads : (marks : List Bool) (j o : ℕ) → j < n → o < n → T (setOf marks j) → T (leads j o) → T (setOf (spread leads n marks) o)
-  spread-leads marks j o hj ho held led =
-      rw (spread-at marks o ho) (either-right (setOf marks o) _ (some-here n _ j hj (both-joined (setOf marks j) (leads j o) held led)))
-
-  -- but nothing that a closed set does not hold
-  spread-inside : (marks : List Bool) (other : Entries) → Closed leads n other → ((j : ℕ) → j < n → T (setOf marks j) → T (other j))
-      → (o : ℕ) → o < n → T (setOf (spread leads n marks) o) → T (other o)
-  spread-inside marks other closed inside o h held =
-      either-split
-      (setOf marks o)
-      (someBelow n (λ j. setOf marks j && leads j o))
-      (inside o h)
-      (λ found.
-      let f = some-found n (λ j. setOf marks j && leads j o) found in
-      let parts = both-parts (setOf marks (f .0)) (leads (f .0) o) (f .2) in
-      closed (f .0) o (f .1) h (inside (f .0) (f .1) (parts .0)) (parts .1))
-      (subst T (spread-at marks o h) held)
-
-  -- and so often as one likes
+  -- and so it is after any number of times
   length-times : (times : ℕ) (marks : List Bool) → length marks ≡ n → length (spreadTo leads n times marks) ≡ n
   unfolding spreadTo
   length-times zero marks long = long
   length-times (suc times) marks long = length-spread (spreadTo leads n times marks)
+
+  -- what is marked stays marked
+  spread-keeps : (marks : List Bool) (o : ℕ) → o < n → T (setOf marks o) → T (setOf (spread leads n marks) o)
+  unfolding spread
+  spread-keeps marks o h held = rw (getD-list n _ o false h) (search either-left)
+
+  -- and all that it leads to is marked
+  spread-leads : (marks : List Bool) (j o : ℕ) → j < n → o < n → T (setOf marks j) → T (leads j o) → T (setOf (spread leads n marks) o)
+  unfolding spread
+  spread-leads marks j o hj ho held led =
+      rw (getD-list n _ o false ho) (either-right (setOf marks o) _ (some-here n _ j hj (both-joined (setOf marks j) (leads j o) held led)))
+
+  -- but nothing that a closed set does not hold
+  spread-inside : (marks : List Bool) (other : Entries) → Closed leads n other → ((j : ℕ) → j < n → T (setOf marks j) → T (other j))
+      → (o : ℕ) → o < n → T (setOf (spread leads n marks) o) → T (other o)
+  unfolding spread
+  spread-inside marks other closed inside o h held =
+      either-split (setOf marks o) _ (inside o h) (λ led.
+      let f = some-found n _ led in
+      let both = both-parts (setOf marks (f .0)) (leads (f .0) o) (f .2) in closed (f .0) o (f .1) h (inside (f .0) (f .1) (both .0)) (both .1))
+      (subst T (getD-list n _ o false h) held)
 
   -- a set that grows no more is closed
   still-closed : (marks : List Bool) → marks ≡ spread leads n marks → Closed leads n (setOf marks)
@@ -72,14 +64,14 @@ module _ (leads : ℕ → ℕ → Bool) (n : ℕ) where
     -- it holds the entry
     after-holds : (times : ℕ) → T (setOf (after times) k)
     unfolding spreadTo
-    after-holds zero = subst T (sym (getD-list n (λ j. eqb j k) k false entry)) (eqb-refl k)
+    after-holds zero = rw (getD-list n _ k false entry) (search eqb-refl)
     after-holds (suc times) = spread-keeps (after times) k entry (after-holds times)
 
     -- every closed set that holds the entry holds all of it
     after-inside : (other : Entries) → T (other k) → Closed leads n other → (times j : ℕ) → j < n → T (setOf (after times) j) → T (other j)
     unfolding spreadTo
     after-inside other holds closed zero j h held =
-        subst (λ (i : ℕ). T (other i)) (sym (eqb→eq j k (subst T (getD-list n (λ i. eqb i k) j false h) held))) holds
+        subst (λ (i : ℕ). T (other i)) (sym (eqb→eq j k (search (subst T (getD-list n _ j false h) held)))) holds
     after-inside other holds closed (suc times) j h held =
         spread-inside (after times) other closed (after-inside other holds closed times) j h held
 
@@ -95,7 +87,7 @@ module _ (leads : ℕ → ℕ → Bool) (n : ℕ) where
         ]
 
     -- so after one time fewer than there are entries it is the least set
-    pub spread-enough : (times : ℕ) → n ≤ suc times → Least leads n k (setOf (after times))
+    spread-enough : (times : ℕ) → n ≤ suc times → Least leads n k (setOf (after times))
     unfolding spreadTo
     spread-enough times enough =
         let all = count-le (after (suc times)) in
