@@ -1,10 +1,8 @@
 -- Demand 3 follows from demand 2 and the least set: proved of every machine that knows the history and every reach that shows the least set, so of ours.
 use mathlib.Core.List.{List, [], _∷_}
-use mathlib.Core.Path.{_≡_, refl, sym, _∙_, ap}
+use mathlib.Core.Path.{_≡_, refl, sym, _∙_, ap, subst}
 use Prim.Native.Nat.{ℕ, _<_}
 use borrow.Author.Tests.{lt-ltb}
-use Rattle.values.specs.declared.Outcome.{Outcome}
-use Rattle.values.specs.declared.Slot.{Slot}
 use Rattle.refusals.specs.declared.Answer.{Answer}
 use Rattle.bits.specs.Reading.{Got, got, refused, answered}
 use Rattle.table.specs.declared.Table.{Table}
@@ -16,11 +14,13 @@ use Rattle.step.specs.Steps.{Step}
 use Rattle.history.specs.History.{momentsBy, resultBy, resultAt}
 use Rattle.history.specs.Offered.{grown, historyOf}
 use Rattle.monitor.specs.Stepping.{resultIn}
-use Rattle.reach.specs.declared.Reach.{Reach}
 use Rattle.reach.specs.Reaching.{reachFault, ReachReply, Shows}
+use Rattle.reach.specs.Spreading.{reachOf}
+use Rattle.reach.specs.Shown.{reply-worked-out}
 use Rattle.agreement.specs.Agreeing.{resultsOfRule}
-use Rattle.demands.specs.Monitors.{Machine, replyTo, heard, SaysTheLogic, AnswersAsDefined, Knows, KnowsTheHistory}
-use Rattle.demands.specs.Knows.{each-result}
+use Rattle.agreement.specs.Same.{shown-same}
+use Rattle.demands.specs.Monitors.{Machine, replyTo, heard, SaysTheLogic, AnswersAsDefined, KnowsTheHistory, ourMachine}
+use Rattle.demands.specs.Knows.{each-result, ours-knows}
 use Rattle.demands.specs.Reaches.{Reacher, ShowsTheLeast, givenIf, givenTo, SameInTheLogic, SameInTheMonitor, DependsOnReach}
 
 -- a machine that knows the history gives a rule, at every step that it accepts, what the logic says

@@ -1,7 +1,7 @@
 -- Lazy and misled reaches, and the statement that stops each: every reach with the fault named is stopped, not one example of it.
 use mathlib.Core.Bool.{Bool, true, false, _&&_, and-false}
 use mathlib.Core.List.{List, [], _∷_}
-use mathlib.Core.Path.{_≡_, refl, sym, _∙_, ap, subst}
+use mathlib.Core.Path.{_≡_, refl, sym, _∙_, subst}
 use Prim.Native.Nat.{ℕ, zero, suc, _<_}
 use native.Mathlib.Omega.{arith}
 use lib.Dec.{T, eqb, lit<, eqb·suc-zero}
@@ -18,25 +18,30 @@ use Rattle.table.specs.declared.Table.{Table}
 use Rattle.table.specs.Kinds.{kindOf, operandsOf, updateOf}
 use Rattle.table.specs.Tables.{entryAt}
 use Rattle.table.specs.Below.{someBelow, some-found, some-here, both-parts, both-joined}
-use Rattle.table.specs.Faults.{theFaults}
+use Rattle.table.specs.Faults.{tableFault, theFaults}
 use Rattle.step.specs.Steps.{Step}
 use Rattle.step.specs.Reader.{theStep}
 use Rattle.history.specs.History.{theLogic}
 use Rattle.history.specs.Offered.{offered, historyOf}
 use Rattle.history.specs.Marked.{rules, startAndEnd, readThenUpdate}
-use Rattle.reach.specs.declared.Reach.{Reach}
-use Rattle.reach.specs.Reaching.{Entries, isOperand, isRead, readsUpdate, leadsTo, Closed, Least, namesImport, reachesImport, reachesClock, readsClock, markedIn, reachFault, ReachReply, Shows}
-use Rattle.agreement.specs.Agreeing.{touchingIn, StepsAgree, Agree, resultsOfRule}
+use Rattle.reach.specs.Reaching.{Entries, isOperand, isRead, leadsTo, Closed, Least, namesImport, reachesImport, reachesClock, readsClock, markedIn}
+use Rattle.agreement.specs.Agreeing.{touchingIn, StepsAgree, resultsOfRule}
 use Rattle.cases.specs.Misleading.{earlierOnly, wrong-least, reading-4-differs}
 use Rattle.demands.specs.Reaches.{Reacher, ShowsTheLeast, SameInTheLogic}
+use Rattle.demands.specs.Depends.{shown}
 
--- what a reach that shows the least set shows where it is not refused
-shown : (reacher : Reacher) → ShowsTheLeast reacher → (t : Table) (k : ℕ) → reachFault t k ≡ Answer.Accepted → Shows t k (reacher t k)
-shown reacher least t k good = subst (λ (a : Answer). ReachReply t k a (reacher t k)) good (least t k) .1
+-- an event import and the time of its latest occurrence
+abbrev pub timed : Table
+timed = rules (true ∷ []) [] (ImportedEvent 0 ∷ Time 0 ∷ [])
 
 -- "A reach that marks everything"
 abbrev pub MarksEverything : Reacher → Type 0
-MarksEverything reacher = (t : Table) (k : ℕ) → reachFault t k ≡ Answer.Accepted → (j : ℕ) → j < t .n → T (markedIn (reacher t k) j)
+MarksEverything reacher = (t : Table) → tableFault t ≡ Answer.Accepted → (k j : ℕ) → k < t .n → j < t .n → T (markedIn (reacher t k) j)
+
+-- the tables that are used here are sound
+each-sound : (tableFault startAndEnd ≡ Answer.Accepted) × ((tableFault readThenUpdate ≡ Answer.Accepted) × (tableFault timed ≡ Answer.Accepted))
+unfolding theFaults
+each-sound = (refl, (refl, refl))
 
 -- the first entry alone, a condition import, is a closed set of the table of a condition, its start and its end
 abbrev conditionAlone : Entries
@@ -53,14 +58,11 @@ condition-alone-closed zero (suc (suc (suc o))) hj ho inside leads = absurd (not
     not-below below = omega arith
 condition-alone-closed (suc j) o hj ho inside leads = absurd (rw (eqb·suc-zero j) at inside)
 
-asked : reachFault startAndEnd 0 ≡ Answer.Accepted
-unfolding theFaults reachFault
-asked = refl
-
 -- "breaks the word 'least' in demand 3": the start, entry 1, is not in the reach of the condition
 pub marks-everything-stopped : (reacher : Reacher) → ShowsTheLeast reacher → MarksEverything reacher → ⊥
 marks-everything-stopped reacher least everything =
-    shown reacher least startAndEnd 0 asked .entries .least conditionAlone tt condition-alone-closed 1 (lit< tt) (everything startAndEnd 0 asked 1 (lit< tt))
+    shown reacher least startAndEnd (each-sound .0) 0 (lit< tt) .entries .least conditionAlone tt condition-alone-closed 1 (lit< tt)
+    (everything startAndEnd (each-sound .0) 0 1 (lit< tt) (lit< tt))
 
 -- a reach worked out by another rule of what leads to what, or of what looks at the clock
 pub record ShowsBy (leads : Table → ℕ → ℕ → Bool) (clocked : Entry → Bool) (reacher : Reacher) (t : Table) (k : ℕ) : Type 0 where
@@ -72,14 +74,10 @@ pub record ShowsBy (leads : Table → ℕ → ℕ → Bool) (clocked : Entry →
 abbrev pub FollowsEarlierOnly : Reacher → Type 0
 FollowsEarlierOnly reacher = ShowsBy earlierOnly (readsClock readThenUpdate) reacher readThenUpdate 0
 
-asked-read : reachFault readThenUpdate 0 ≡ Answer.Accepted
-unfolding theFaults reachFault
-asked-read = refl
-
 -- it isn't the least set
 pub earlier-only-stopped : (reacher : Reacher) → ShowsTheLeast reacher → FollowsEarlierOnly reacher → ⊥
 earlier-only-stopped reacher least wrong =
-    let differs = reading-4-differs (markedIn (reacher readThenUpdate 0)) (markedIn (reacher readThenUpdate 0)) (shown reacher least readThenUpdate 0 asked-read .entries) (wrong .entries) in
+    let differs = reading-4-differs (markedIn (reacher readThenUpdate 0)) (markedIn (reacher readThenUpdate 0)) (shown reacher least readThenUpdate (each-sound .1 .0) 0 (lit< tt) .entries) (wrong .entries) in
     differs .1 (differs .0)
 
 -- byte strings offered as steps: at time 1 or 2, with the event or with no report
@@ -131,17 +129,9 @@ earlier-only-disagrees reacher wrong same =
     let z : _≡_ {A = ℕ} 7 5 = cc (sym (later-seen .0) ∙ alike ∙ later-seen .1) in
     omega arith
 
--- an event import and the time of its latest occurrence
-abbrev pub timed : Table
-timed = rules (true ∷ []) [] (ImportedEvent 0 ∷ Time 0 ∷ [])
-
 -- "the clock exactly if the set holds kind 19 or 21": one that leaves out kind 21
 abbrev pub LeavesOutTimes : Reacher → Type 0
 LeavesOutTimes reacher = ShowsBy leadsTo (λ e. eqb (kindOf e) 19) reacher timed 1
-
-asked-time : reachFault timed 1 ≡ Answer.Accepted
-unfolding theFaults reachFault
-asked-time = refl
 
 -- no entry of that table has kind 19, and entry 1 has kind 21
 no-clock : (S : Entries) → someBelow 2 (λ j. S j && eqb (kindOf (entryAt timed j)) 19) ≡ false
@@ -155,7 +145,7 @@ a-time S held = some-here 2 (λ j. S j && readsClock timed (entryAt timed j)) 1 
 -- what it shows of the clock is not the least set's
 pub no-times-stopped : (reacher : Reacher) → ShowsTheLeast reacher → LeavesOutTimes reacher → ⊥
 no-times-stopped reacher least wrong =
-    let right = shown reacher least timed 1 asked-time in
+    let right = shown reacher least timed (each-sound .1 .1) 1 (lit< tt) in
     subst T (sym (right .clock) ∙ wrong .clock ∙ no-clock (markedIn (reacher timed 1))) (a-time (markedIn (reacher timed 1)) (right .entries .holds))
 
 -- the rule gives the time of the event, 1 in the one stream and 2 in the other

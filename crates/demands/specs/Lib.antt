@@ -7,3 +7,4 @@ pub mod LazyMonitors
 pub mod Reaches
 pub mod Depends
 pub mod LazyReaches
+pub mod AgreementAlone
