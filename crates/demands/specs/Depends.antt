@@ -33,6 +33,7 @@ given-logic machine t says answers k (bytes ∷ before) = by (heard t before byt
     answer : (g : Got Step) → heard t before bytes ≡ g → givenIf (replyTo machine t before bytes .answer) (resultIn (replyTo machine t before bytes .results) k) (givenTo machine t k before)
         ≡ givenIf (answered g) (resultIn (replyTo machine t before bytes .results) k) (givenTo machine t k before)
     answer g e = ap (λ (a : Answer). givenIf a (resultIn (replyTo machine t before bytes .results) k) (givenTo machine t k before)) (answers before bytes ∙ ap answered e)
+
     by : (g : Got Step) → heard t before bytes ≡ g → givenTo machine t k before ≡ resultsOfRule t k (historyOf t before)
         → givenIf (replyTo machine t before bytes .answer) (resultIn (replyTo machine t before bytes .results) k) (givenTo machine t k before)
         ≡ resultsOfRule t k (grown (historyOf t before) g)
@@ -52,6 +53,7 @@ least-suffices machine knows reacher least = record { least = least; logic = λ 
   where
     in-logic : (t : Table) → tableFault t ≡ Answer.Accepted → SameInTheLogic reacher t
     in-logic t good k there a b = shown-same t good k there (reacher t k) (shown reacher least t good k there) (historyOf t a) (historyOf t b)
+
     in-monitor : (t : Table) → Shaped t → tableFault t ≡ Answer.Accepted → SameInTheMonitor machine reacher t
     in-monitor t shaped good k there a b agree =
         let known = knows .sound t shaped good in
