@@ -1,23 +1,30 @@
 -- "A monitor that gives every step the same results ... meet[s] demand 3's agreement alone": so does a reach that marks everything.
+use mathlib.Core.Bool.{true}
 use mathlib.Core.List.{List, [], _∷_}
-use mathlib.Core.Path.{_≡_, refl, sym, _∙_, ap, subst}
-use Prim.Native.Nat.{ℕ, zero, suc, _<_}
+use mathlib.Core.Path.{_≡_, refl, sym, _∙_, ap}
+use Prim.Native.Nat.{ℕ, suc}
 use native.Mathlib.Omega.{arith}
+use lib.Dec.{T}
 use lib.ListN.{length, replicate}
 use Rattle.values.specs.declared.Outcome.{Outcome}
 use Rattle.values.specs.declared.Slot.{Slot}
-use Rattle.refusals.specs.declared.Refusal.{Refusal}
 use Rattle.refusals.specs.declared.Answer.{Answer}
 use Rattle.bits.specs.Reading.{Got, got, refused, answered}
 use Rattle.table.specs.declared.Table.{Table}
+use Rattle.table.specs.Faults.{tableFault}
+use Rattle.table.specs.Sound.{sound-table}
 use Rattle.step.specs.Steps.{Step}
 use Rattle.history.specs.History.{History}
 use Rattle.history.specs.Offered.{grown, historyOf}
 use Rattle.monitor.specs.Stepping.{resultIn}
-use Rattle.agreement.specs.Agreeing.{Touching, Agree, touchingIn}
+use Rattle.reach.specs.Reaching.{Entries}
+use Rattle.reach.specs.Shown.{reached-below}
+use Rattle.agreement.specs.Agreeing.{Touching, Agree, touchingIn, touchingBy}
+use Rattle.agreement.specs.Same.{same-results}
 use Rattle.demands.specs.Monitors.{Machine, replyTo, heard, AnswersAsDefined}
 use Rattle.demands.specs.LazyMonitors.{SameResults}
-use Rattle.demands.specs.Reaches.{Reacher, givenIf, givenTo, SameInTheMonitor}
+use Rattle.demands.specs.Reaches.{Reacher, givenIf, givenTo, SameInTheLogic, SameInTheMonitor}
+use Rattle.demands.specs.LazyReaches.{MarksEverything}
 
 -- two histories that agree have as many steps
 agree-length : (r : Touching) (g h : History) → Agree r g h → length g ≡ length h
@@ -81,3 +88,22 @@ pub same-results-agree : (machine : Machine) (t : Table) → AnswersAsDefined ma
 same-results-agree machine t answers alike reacher k there a b agree =
     as-many machine t k alike a b
     (given-length machine t k answers a ∙ agree-length (touchingIn (reacher t k)) (historyOf t a) (historyOf t b) agree ∙ sym (given-length machine t k answers b))
+
+-- two histories that agree on more agree on less
+agree-less : (a b : Touching) → ((i : ℕ) → T (b .imports i) → T (a .imports i)) → (T (b .clock) → T (a .clock)) → (g h : History) → Agree a g h → Agree b g h
+agree-less a b imports clock [] [] agree = tt
+agree-less a b imports clock [] (y ∷ h) agree = absurd agree
+agree-less a b imports clock (x ∷ g) [] agree = absurd agree
+agree-less a b imports clock (x ∷ g) (y ∷ h) agree = (
+  record { reports = λ i reached. agree .0 .reports i (imports i reached); times = λ reached. agree .0 .times (clock reached) },
+  agree-less a b imports clock g h (agree .1),
+)
+
+-- "A reach that marks everything" agrees, and only "least" stops it
+pub everything-agrees : (reacher : Reacher) (t : Table) → tableFault t ≡ Answer.Accepted → MarksEverything reacher t → SameInTheLogic reacher t
+everything-agrees reacher t good everything k there a b agree =
+    let all : Entries = λ j. true in
+    same-results t good all (λ j o hj ho held led. tt) (historyOf t a) (historyOf t b)
+    (agree-less (touchingIn (reacher t k)) (touchingBy t all) (λ i reached. everything .imports k i there (reached-below t (sound-table t good) all i reached))
+    (λ reached. everything .clock k there) (historyOf t a) (historyOf t b) agree)
+    k there tt

@@ -34,9 +34,11 @@ use Rattle.demands.specs.Depends.{shown}
 abbrev pub timed : Table
 timed = rules (true ∷ []) [] (ImportedEvent 0 ∷ Time 0 ∷ [])
 
--- "A reach that marks everything"
-abbrev pub MarksEverything : Reacher → Type 0
-MarksEverything reacher = (t : Table) → tableFault t ≡ Answer.Accepted → (k j : ℕ) → k < t .n → j < t .n → T (markedIn (reacher t k) j)
+-- "A reach that marks everything": every entry, every import and the clock
+pub record MarksEverything (reacher : Reacher) (t : Table) : Type 0 where
+  pub entries : (k j : ℕ) → k < t .n → j < t .n → T (markedIn (reacher t k) j)
+  pub imports : (k i : ℕ) → k < t .n → i < t .q → T (getD (reacher t k .imports) i false)
+  pub clock : (k : ℕ) → k < t .n → T (reacher t k .clock)
 
 -- the tables that are used here are sound
 each-sound : (tableFault startAndEnd ≡ Answer.Accepted) × ((tableFault readThenUpdate ≡ Answer.Accepted) × (tableFault timed ≡ Answer.Accepted))
@@ -59,10 +61,10 @@ condition-alone-closed zero (suc (suc (suc o))) hj ho inside leads = absurd (not
 condition-alone-closed (suc j) o hj ho inside leads = absurd (rw (eqb·suc-zero j) at inside)
 
 -- "breaks the word 'least' in demand 3": the start, entry 1, is not in the reach of the condition
-pub marks-everything-stopped : (reacher : Reacher) → ShowsTheLeast reacher → MarksEverything reacher → ⊥
+pub marks-everything-stopped : (reacher : Reacher) → ShowsTheLeast reacher → MarksEverything reacher startAndEnd → ⊥
 marks-everything-stopped reacher least everything =
     shown reacher least startAndEnd (each-sound .0) 0 (lit< tt) .entries .least conditionAlone tt condition-alone-closed 1 (lit< tt)
-    (everything startAndEnd (each-sound .0) 0 1 (lit< tt) (lit< tt))
+    (everything .entries 0 1 (lit< tt) (lit< tt))
 
 -- a reach worked out by another rule of what leads to what, or of what looks at the clock
 pub record ShowsBy (leads : Table → ℕ → ℕ → Bool) (clocked : Entry → Bool) (reacher : Reacher) (t : Table) (k : ℕ) : Type 0 where
