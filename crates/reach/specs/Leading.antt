@@ -1,0 +1,53 @@
+-- What an entry leads to, by the numbers of what its operands name once it is taken apart.
+use mathlib.Core.Bool.{Bool, true, false, _||_, or-assoc}
+use mathlib.Core.List.{List, [], _∷_, _++_, List·Memᴰ, List·Memᴰ·head, List·Memᴰ·tail, List·Memᴰ·not-nil, List·Memᴰ·cases-cons}
+use mathlib.Core.Logic.{_⊎_, inl, inr, ⊎-elim}
+use mathlib.Core.Option.{Option, none, some}
+use mathlib.Core.Path.{_≡_, refl, sym, ap, subst, _∙_}
+use Prim.Native.Nat.{ℕ, _<_}
+use native.Mathlib.Omega.{arith}
+use borrow.Author.Tests.{ne-eqb}
+use lib.Dec.{T, eqb, eqb→eq, eqb-refl}
+use Rattle.table.specs.declared.Entry.{Entry}
+use Rattle.table.specs.declared.Entry.the-variants.{ImportedCondition, Defined, Pair, Not, Or, And, Implies, Less, Equal, ImportedEvent, Start, End, Both, Either, When, Constant, Variable, Sum, Difference, Clock, Value, Time, Update, Alarm, Property}
+use Rattle.table.specs.Limits.{limits}
+use Rattle.table.specs.Kinds.{entry, imported, variable, constant, operandsOf, Change, updateOf}
+use Rattle.table.specs.Kinds as kinds
+use Rattle.kinds.specs.declared.Operand.{Operand}
+use Rattle.kinds.specs.declared.Apart.{Apart}
+use Rattle.kinds.specs.Apart.{apartOf, firstOf, namedBy}
+use Rattle.kinds.specs.Laws.{operands-apart}
+use Rattle.reach.specs.Reaching.{isOperand, isRead, readsUpdate, namesImport}
+
+-- the entry that an operand names; where it names none, a number past the slots
+abbrev pub entryNamed : Operand → ℕ
+entryNamed Operand.Nothing = limits .slots
+entryNamed (Operand.Entry s a) = a
+entryNamed (Operand.Imported s i) = limits .slots
+entryNamed (Operand.Variable x) = limits .slots
+entryNamed (Operand.Constant z) = limits .slots
+
+-- the import that an operand names; where it names none, a number past the slots
+abbrev pub importNamed : Operand → ℕ
+importNamed Operand.Nothing = limits .imports
+importNamed (Operand.Entry s a) = limits .imports
+importNamed (Operand.Imported s i) = i
+importNamed (Operand.Variable x) = limits .imports
+importNamed (Operand.Constant z) = limits .imports
+
+-- the variable that an operand names; where it names none, a number past the slots
+abbrev pub variableNamed : Operand → ℕ
+variableNamed Operand.Nothing = limits .variables
+variableNamed (Operand.Entry s a) = limits .variables
+variableNamed (Operand.Imported s i) = limits .variables
+variableNamed (Operand.Variable x) = x
+variableNamed (Operand.Constant z) = limits .variables
+
+-- the entries that the operands name
+abbrev pub entriesNamed : Apart → List ℕ
+entriesNamed parts = entryNamed (parts .first) ∷ entryNamed (parts .second) ∷ entryNamed (parts .third) ∷ []
+
+-- what an update gives a number to
+abbrev pub changes : Option Change → ℕ → Bool
+changes none x = false
+changes (some u) x = eqb (u .variable) x

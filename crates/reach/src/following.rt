@@ -1,0 +1,59 @@
+// The entries that an entry leads to, and all that those lead to in turn.
+use kinds::Apart;
+use kinds::Operand;
+use table::Table;
+ghost use mathlib.Core.List.{[], _∷_};
+ghost use mathlib.Core.Path.{_≡_};
+ghost use Rattle.reach.specs.Adding.{found, Adds, Room};
+ghost use Rattle.reach.specs.Leading.{entryNamed, entriesNamed};
+
+// The entry that an operand names; where it names none, a number past the slots.
+fn entry_named(o: Operand) -> usize
+    ensures { λ r. ⌜ r ≡ entryNamed o ⌝ }
+{
+    match o {
+        Operand::Nothing => Table::ENTRIES,
+        Operand::Entry(_, a) => a as usize,
+        Operand::Imported(_, _) => Table::ENTRIES,
+        Operand::Variable(_) => Table::ENTRIES,
+        Operand::Constant(_) => Table::ENTRIES,
+    }
+}
+
+// Marks an entry and puts it last, unless it was marked; past the slots there is no entry. How many are found then.
+fn add(
+    marks: &mut [bool; Table::ENTRIES],
+    order: &mut [u16; Table::ENTRIES],
+    count: usize,
+    j: usize,
+) -> usize
+    requires { ⌜ Room (found (now marks) (now order) count) ⌝ }
+    ensures { λ r. ⌜ Adds (found (now (marks .entry)) (now (order .entry)) count) (j ∷ []) (found (now (marks .exit)) (now (order .exit)) r) ⌝ }
+{
+    if j < Table::ENTRIES {
+        if !marks[j] {
+            marks[j] = true;
+            order[count] = j as u16;
+            return count + 1;
+        }
+    }
+    count
+}
+
+// "with any entry, its operand entries"
+fn add_operands(
+    parts: Apart,
+    marks: &mut [bool; Table::ENTRIES],
+    order: &mut [u16; Table::ENTRIES],
+    count: usize,
+) -> usize
+    requires { ⌜ Room (found (now marks) (now order) count) ⌝ }
+    ensures { λ r. ⌜ Adds (found (now (marks .entry)) (now (order .entry)) count) (entriesNamed parts) (found (now (marks .exit)) (now (order .exit)) r) ⌝ }
+{
+    let first = parts.first;
+    let second = parts.second;
+    let third = parts.third;
+    let one = add(marks, order, count, entry_named(first));
+    let two = add(marks, order, one, entry_named(second));
+    add(marks, order, two, entry_named(third))
+}
