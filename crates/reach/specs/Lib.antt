@@ -3,5 +3,7 @@ pub mod Reaching
 pub mod Naming
 pub mod Counting
 pub mod Spreading
-pub mod Adding
+pub mod Spread
+pub mod Shown
 pub mod Leading
+pub mod Adding
