@@ -7,3 +7,4 @@ pub mod Spread
 pub mod Shown
 pub mod Leading
 pub mod Adding
+pub mod Linking
