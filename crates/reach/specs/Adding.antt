@@ -69,6 +69,10 @@ adds-joined (new slot unset more) then = new slot unset (adds-joined more then)
 pub adds-three : {f g h i : Found} {a b c x y z : ℕ} → x ≡ a → Adds f (x ∷ []) g → y ≡ b → Adds g (y ∷ []) h → z ≡ c → Adds h (z ∷ []) i → Adds f (a ∷ b ∷ c ∷ []) i
 adds-three one first two second three third = rw (← one, ← two, ← three) (adds-joined first (adds-joined second third))
 
+-- no more are found than there are slots
+pub room-count : {f : Found} → Room f → f .count ≤ limits .slots
+room-count {f} room = omega (arith, room .marks, room .counted, count-le (f .marks))
+
 module _ {f : Found} {j : ℕ} (room : Room f) (slot : j < limits .slots) (unset : marked f j ≡ false) where
   -- an entry that is not marked has a place
   pub room-left : f .count < limits .slots

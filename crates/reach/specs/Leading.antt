@@ -142,9 +142,10 @@ first-read (variable y ∷ os) slot = eqb-refl y
 first-read (constant z ∷ os) slot = absurd (omega arith)
 
 -- an update that is read is one of that variable
-reads-changes : (os : List kinds.Operand) (u : Option Change) → T (readsUpdate os u) → T (changes u (variableNamed (firstOf os)))
+reads-changes : (os : List kinds.Operand) (u : Option Change) → T (readsUpdate os u)
+    → T (isRead os (variableNamed (firstOf os))) × T (changes u (variableNamed (firstOf os)))
 reads-changes os none is = absurd is
-reads-changes os (some u) is = rw (read-first os (u .variable) is) (eqb-refl (u .variable))
+reads-changes os (some u) is = rw (read-first os (u .variable) is) (is, eqb-refl (u .variable))
 
 changes-reads : (os : List kinds.Operand) (u : Option Change) → variableNamed (firstOf os) < limits .variables → T (changes u (variableNamed (firstOf os)))
     → T (readsUpdate os u)
@@ -197,12 +198,13 @@ update-named t o x slot = update-second (entryAt t o) x slot
 module _ (t : Table) (j o : ℕ) where
   -- what an entry leads to is named by it, or is an update of the variable that it reads
   pub led-either : {X : Type 0} → o < limits .slots → T (leadsTo t j o) → (List·Memᴰ o (entriesNamed (apartOf (entryAt t j))) → X)
-      → (T (updates t (variableNamed (apartOf (entryAt t j) .first)) o) → X) → X
+      → (T (isRead (operandsOf (entryAt t j)) (variableNamed (apartOf (entryAt t j) .first))) → T (updates t (variableNamed (apartOf (entryAt t j) .first)) o) → X)
+      → X
   unfolding leadsTo updates apartOf
   led-either slot led operand update =
       let os = operandsOf (entryAt t j) in
       either-split (isOperand os o) (readsUpdate os (updateOf (entryAt t o))) (λ is. operand (operand-among (entryAt t j) o slot is))
-      (λ is. update (reads-changes os (updateOf (entryAt t o)) is)) led
+      (λ is. let both = reads-changes os (updateOf (entryAt t o)) is in update (both .0) (both .1)) led
 
   -- and to both it leads
   pub leads-named : o < limits .slots → List·Memᴰ o (entriesNamed (apartOf (entryAt t j))) → T (leadsTo t j o)

@@ -8,3 +8,4 @@ pub mod Shown
 pub mod Leading
 pub mod Adding
 pub mod Linking
+pub mod Following

@@ -3,7 +3,7 @@ use mathlib.Core.Bool.{Bool, true, false, cond}
 use mathlib.Core.List.{List, [], _∷_, List·Memᴰ, List·Memᴰ·head, List·Memᴰ·tail, List·Memᴰ·not-nil, List·Memᴰ·cases-cons}
 use mathlib.Core.Logic.{⊎-elim}
 use mathlib.Core.Path.{_≡_, refl, sym, ap, _∙_}
-use Prim.Native.Nat.{ℕ, zero, suc, _+_, _<_, _≤_}
+use Prim.Native.Nat.{ℕ, zero, suc, _+_, _-_, _<_, _≤_}
 use native.Mathlib.Decide.{ℕ-discrete, decLt}
 use native.Mathlib.Nat.{not-suc-le-zero}
 use native.Mathlib.Numerals.{add-one}
@@ -30,9 +30,13 @@ lastUpdate t x (suc k) = cond (updates t x k) (suc k) (lastUpdate t x k)
 pub record Link (t : Table) (x l : ℕ) : Type 0 where
   pub is : (j : ℕ) → l ≡ suc j → T (updates t x j)
 
+-- every link leads to an earlier entry
+pub record Falls (before : List ℕ) : Type 0 where
+  pub lower : (j : ℕ) → getD before j 0 ≤ j
+
 -- each update is linked to the last one before it of the same variable
 pub record Linked (t : Table) (before : List ℕ) : Type 0 where
-  pub falls : (j : ℕ) → getD before j 0 ≤ j
+  pub falls : Falls before
   pub earlier : (x j : ℕ) → x < limits .variables → j < t .n → T (updates t x j) → getD before j 0 ≡ lastUpdate t x j
 
 -- the links of a table
@@ -106,7 +110,7 @@ pub record Linking (t : Table) (last before : List ℕ) (k : ℕ) : Type 0 where
   pub within : k ≤ t .n
   pub slots : (length last ≡ limits .variables) × (length before ≡ limits .slots)
   pub lasts : (x : ℕ) → x < limits .variables → getD last x 0 ≡ lastUpdate t x k
-  pub falls : (j : ℕ) → getD before j 0 ≤ j
+  pub falls : Falls before
   pub earlier : (x j : ℕ) → x < limits .variables → j < k → T (updates t x j) → getD before j 0 ≡ lastUpdate t x j
 
 -- no entry is passed yet
@@ -117,7 +121,7 @@ linking-none t =
       within = omega arith;
       slots = (refl, refl);
       lasts = λ x slot. getD-padded [] (limits .variables) x 0;
-      falls = λ j. omega (arith, getD-padded {A = ℕ} [] (limits .slots) j 0);
+      falls = record { lower = λ j. omega (arith, getD-padded {A = ℕ} [] (limits .slots) j 0) };
       earlier = λ x j slot h is. absurd (not-suc-le-zero h);
     }
 
@@ -137,10 +141,12 @@ module _ {t : Table} {last before : List ℕ} {k : ℕ} (linking : Linking t las
         within = omega arith;
         slots = (rw (replaced .set) (length-set last y (k + 1) ∙ linking .slots .0), length-set before k link ∙ linking .slots .1);
         lasts = λ x slot. rw (replaced .set, add-one k) (lasts x slot);
-        falls = λ j. elim (ℕ-discrete j k) [
-          | yes e ↦ rw e (omega (arith, here, link-falls y, replaced .was))
-          | no e ↦ rw (getD-set-other before k j link 0 e) (linking .falls j)
-        ];
+        falls = record {
+          lower = λ j. elim (ℕ-discrete j k) [
+            | yes e ↦ rw e (omega (arith, here, link-falls y, replaced .was))
+            | no e ↦ rw (getD-set-other before k j link 0 e) (linking .falls .lower j)
+          ];
+        };
         earlier = λ x j slot h is. elim (ℕ-discrete j k) [
           | yes e ↦ rw e (here ∙ replaced .was ∙ ap (λ (v : ℕ). getD last v 0) (sym (mine x slot (rw e at is))) ∙ linking .lasts x slot)
           | no e ↦ getD-set-other before k j link 0 e ∙ linking .earlier x j slot (omega arith) is
@@ -171,3 +177,60 @@ linking-all {t} {last} {before} {k} linking past =
       last = λ x slot. linking .lasts x slot ∙ ap (lastUpdate t x) all;
       before = record { falls = linking .falls; earlier = λ x j slot h is. linking .earlier x j slot (omega arith) is };
     }
+
+-- a link leads below itself
+pub falls-less : {before : List ℕ} (l : ℕ) → Falls before → 0 < l → getD before (l - 1) 0 < l
+falls-less l falls some = omega (arith, falls .lower (l - 1))
+
+-- from 0 no link leads on
+pub linked-none : (before : List ℕ) (l : ℕ) → l ≤ 0 → linkedFrom before l ≡ []
+unfolding along
+linked-none before zero none = refl
+linked-none before (suc l) none = absurd (not-suc-le-zero none)
+
+module _ {before : List ℕ} (falls : Falls before) where
+  -- as many as lead through are enough
+  along-enough : (most more l : ℕ) → l ≤ most → l ≤ more → along before most l ≡ along before more l
+  unfolding along
+  along-enough zero zero l h more = refl
+  along-enough zero (suc more) zero h k = refl
+  along-enough zero (suc more) (suc j) h k = absurd (not-suc-le-zero h)
+  along-enough (suc most) zero zero h k = refl
+  along-enough (suc most) zero (suc j) h k = absurd (not-suc-le-zero k)
+  along-enough (suc most) (suc more) zero h k = refl
+  along-enough (suc most) (suc more) (suc j) h k =
+      let lower = falls .lower j in ap (λ (js : List ℕ). j ∷ js) (along-enough most more (getD before j 0) (omega arith) (omega arith))
+
+  -- an entry, and those that its link leads through
+  pub linked-next : (j : ℕ) → linkedFrom before (suc j) ≡ j ∷ linkedFrom before (getD before j 0)
+  unfolding along
+  linked-next j = ap (λ (js : List ℕ). j ∷ js) (along-enough j (getD before j 0) (getD before j 0) (falls .lower j) (omega arith))
+
+module _ {t : Table} {before : List ℕ} (linked : Linked t before) (x : ℕ) (slot : x < limits .variables) where
+  -- an update's own link leads to an update
+  link-earlier : (j : ℕ) → j < t .n → T (updates t x j) → Link t x (getD before j 0)
+  link-earlier j below is = rw (linked .earlier x j slot below is) (last-is t x j)
+
+  -- links lead through updates only
+  pub along-updates : (most l : ℕ) → l ≤ t .n → Link t x l → (o : ℕ) → List·Memᴰ o (along before most l) → (o < t .n) × T (updates t x o)
+  unfolding along
+  along-updates zero l few link o among = absurd (List·Memᴰ·not-nil among)
+  along-updates (suc most) zero few link o among = absurd (List·Memᴰ·not-nil among)
+  along-updates (suc most) (suc j) few link o among =
+      let lower = linked .falls .lower j in
+      let onward = along-updates most (getD before j 0) (omega arith) (link-earlier j few (link .is j refl)) o in
+      ⊎-elim (λ same. (omega arith, rw same (link .is j refl))) onward (List·Memᴰ·cases-cons among)
+
+  -- and through all of them
+  pub updates-along : (most l : ℕ) → l ≤ most → l ≤ t .n → Link t x l → (o : ℕ) → o < l → T (updates t x o) → List·Memᴰ o (along before most l)
+  unfolding along
+  updates-along zero l h few link o before is = absurd (omega arith)
+  updates-along (suc most) zero h few link o before is = absurd (not-suc-le-zero before)
+  updates-along (suc most) (suc j) h few link o earlier is =
+      let lower = linked .falls .lower j in
+      let mine = link .is j refl in
+      let onward = updates-along most (getD before j 0) (omega arith) (omega arith) (link-earlier j few mine) o in
+      elim (ℕ-discrete o j) [
+        | yes e ↦ List·Memᴰ·head e
+        | no e ↦ List·Memᴰ·tail (onward (omega (arith, linked .earlier x j slot few mine, last-after t x j o (omega arith) is)) is)
+      ]

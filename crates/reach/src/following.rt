@@ -4,8 +4,11 @@ use kinds::Operand;
 use table::Table;
 ghost use mathlib.Core.List.{[], _∷_};
 ghost use mathlib.Core.Path.{_≡_};
+ghost use Prim.Native.Nat.{_≤_};
+ghost use Rattle.table.specs.Limits.{limits};
 ghost use Rattle.reach.specs.Adding.{found, Adds, Room};
 ghost use Rattle.reach.specs.Leading.{entryNamed, entriesNamed};
+ghost use Rattle.reach.specs.Linking.{Falls, linkedFrom};
 
 // The entry that an operand names; where it names none, a number past the slots.
 fn entry_named(o: Operand) -> usize
@@ -56,4 +59,25 @@ fn add_operands(
     let one = add(marks, order, count, entry_named(first));
     let two = add(marks, order, one, entry_named(second));
     add(marks, order, two, entry_named(third))
+}
+
+// "every update of that variable": those that the links lead through.
+fn add_updates(
+    before: &[u16; Table::ENTRIES],
+    from: u16,
+    marks: &mut [bool; Table::ENTRIES],
+    order: &mut [u16; Table::ENTRIES],
+    count: usize,
+) -> usize
+    requires { ⌜ Falls (now before) × (from ≤ limits .slots) × Room (found (now marks) (now order) count) ⌝ }
+    ensures { λ r. ⌜ Adds (found (now (marks .entry)) (now (order .entry)) count) (linkedFrom (now (before .entry)) from) (found (now (marks .exit)) (now (order .exit)) r) ⌝ }
+{
+    let mut total = count;
+    let mut link = from;
+    while 0 < link {
+        let j = (link - 1) as usize;
+        total = add(marks, order, total, j);
+        link = before[j];
+    }
+    total
 }
