@@ -126,6 +126,23 @@ following-none {t} {k} {u} {f} sound below links adds =
           placed = λ o is. absurd (none-marked o is);
         }
 
+module _ {t : Table} {k : ℕ} {before last : List ℕ} {f : Found} {head : ℕ} (sound : Sound t) (following : Following t k before last f head) where
+  -- past the slots there is no link
+  no-link : (x : ℕ) → limits .variables ≤ x → getD last x 0 ≡ 0
+  no-link x past = List·getD-eq-default last 0 (omega (arith, following .slots))
+
+  -- a link leads to an entry that has a slot
+  pub link-slot : {y link : ℕ} {after : List ℕ} → Replaced last y 0 after link → link ≤ limits .slots
+  link-slot {y} replaced =
+      elim (decLt y (limits .variables)) [
+        | yes slot ↦ omega (arith, replaced .was, following .links y slot .1, sound .within .entries)
+        | no past ↦ omega (arith, replaced .was, no-link y (omega arith))
+      ]
+
+  -- an entry that was found has a slot
+  pub found-slot : head < f .count → placeOf f head < limits .slots
+  found-slot some = omega (arith, following .held .listed .below head some, sound .within .entries)
+
 module _ {t : Table} {k : ℕ} {before last : List ℕ} {f : Found} {head : ℕ} (sound : Sound t) (linked : Linked t before)
     (following : Following t k before last f head) (some : head < f .count) {parts : Apart} {y link : ℕ} {after : List ℕ} {g h : Found}
     (apart : parts ≡ apartOf (entryAt t (placeOf f head))) (operands : Adds f (entriesNamed parts) g) (named : y ≡ variableNamed (parts .first))
@@ -161,11 +178,8 @@ module _ {t : Table} {k : ℕ} {before last : List ℕ} {f : Found} {head : ℕ}
           let is = along-updates linked y slot _ _ (whole .1) (whole .0) o mine in
           (is .0, leads-update t followed o (rw reads at slot) (rw reads at (is .1)))
         | no past ↦
-          absurd (List·Memᴰ·not-nil (subst (List·Memᴰ o) (linked-none before link (omega (arith, replaced .was, no-link past))) among))
+          absurd (List·Memᴰ·not-nil (subst (List·Memᴰ o) (linked-none before link (omega (arith, replaced .was, no-link sound following y (omega arith)))) among))
       ]
-    where
-      no-link : (y < limits .variables → ⊥) → getD last y 0 ≡ 0
-      no-link past = List·getD-eq-default last 0 (omega (arith, following .slots))
 
   -- what was found stays
   held-operands : Held t k g

@@ -1,14 +1,20 @@
 // The entries that an entry leads to, and all that those lead to in turn.
+use crate::updates::Updates;
+use crate::updates::replace;
+use crate::updates::variable_named;
 use kinds::Apart;
 use kinds::Operand;
+use kinds::apart_of;
 use table::Table;
 ghost use mathlib.Core.List.{[], _∷_};
 ghost use mathlib.Core.Path.{_≡_};
-ghost use Prim.Native.Nat.{_≤_};
+ghost use Prim.Native.Nat.{_<_, _≤_};
 ghost use Rattle.table.specs.Limits.{limits};
+ghost use Rattle.table.specs.Sound.{Sound};
 ghost use Rattle.reach.specs.Adding.{found, Adds, Room};
 ghost use Rattle.reach.specs.Leading.{entryNamed, entriesNamed};
-ghost use Rattle.reach.specs.Linking.{Falls, linkedFrom};
+ghost use Rattle.reach.specs.Linking.{Falls, Links, linkedFrom};
+ghost use Rattle.reach.specs.Following.{Reached};
 
 // The entry that an operand names; where it names none, a number past the slots.
 fn entry_named(o: Operand) -> usize
@@ -80,4 +86,30 @@ fn add_updates(
         link = before[j];
     }
     total
+}
+
+// The entries that entry k reaches: each that is found is taken apart once, in the order in which they were found.
+// The links of a variable are cut when it is first read, so that each update is followed once.
+pub(crate) fn reached(t: Table, u: Updates, k: usize) -> [bool; Table::ENTRIES]
+    requires { ⌜ Sound t × (k < t .n) × Links t u ⌝ }
+    ensures { λ r. ⌜ Reached t k r ⌝ }
+{
+    let before = u.before;
+    let mut last = u.last;
+    let mut marks = [false; Table::ENTRIES];
+    let mut order: [u16; Table::ENTRIES] = [0; Table::ENTRIES];
+    let mut count = add(&mut marks, &mut order, 0, k);
+    let mut head: usize = 0;
+    while head < count {
+        let j = order[head] as usize;
+        let slot = t.entries[j];
+        let e = slot.entry;
+        let parts = apart_of(e);
+        let first = parts.first;
+        count = add_operands(parts, &mut marks, &mut order, count);
+        let link = replace(&mut last, variable_named(first), 0);
+        count = add_updates(&before, link, &mut marks, &mut order, count);
+        head += 1;
+    }
+    marks
 }
