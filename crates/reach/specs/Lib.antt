@@ -9,3 +9,4 @@ pub mod Leading
 pub mod Adding
 pub mod Linking
 pub mod Following
+pub mod Touching

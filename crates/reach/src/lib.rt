@@ -1,5 +1,6 @@
 // The reach of a rule: which entries and imports it can depend on, and whether on the clock.
 mod following;
+mod touched;
 mod updates;
 
 use refusals::Answer;
