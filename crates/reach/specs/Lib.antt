@@ -10,3 +10,4 @@ pub mod Adding
 pub mod Linking
 pub mod Following
 pub mod Touching
+pub mod Replying
