@@ -12,8 +12,9 @@ ghost use Prim.Native.Nat.{_<_, _≤_};
 ghost use Rattle.table.specs.Limits.{limits};
 ghost use Rattle.table.specs.Sound.{Sound};
 ghost use Rattle.reach.specs.Adding.{found, Adds, Room};
-ghost use Rattle.reach.specs.Leading.{entryNamed, entriesNamed};
-ghost use Rattle.reach.specs.Linking.{Falls, Links, linkedFrom};
+ghost use Rattle.reach.specs.Along.{linkedFrom};
+ghost use Rattle.reach.specs.Linking.{Falls, Links};
+ghost use Rattle.reach.specs.Named.{entryNamed, entriesNamed};
 ghost use Rattle.reach.specs.Following.{Reached};
 
 // The entry that an operand names; where it names none, a number past the slots.

@@ -6,7 +6,7 @@ ghost use mathlib.Core.Path.{_≡_};
 ghost use lib.ListN.{length};
 ghost use Rattle.table.specs.Limits.{limits};
 ghost use Rattle.table.specs.Sound.{Sound};
-ghost use Rattle.reach.specs.Leading.{variableNamed};
+ghost use Rattle.reach.specs.Named.{variableNamed};
 ghost use Rattle.reach.specs.Linking.{Replaced, Links};
 
 // Links to updates: of each variable to its last, and of each update to the one before it of the same variable.

@@ -1,6 +1,6 @@
 -- `reach::following::reached` meets its contract. The loop's invariant: the first entries found are followed; the measure is how many slots are left.
 use borrow.Author.Needs.{needs}
-use Prim.Native.Nat.{_-_, _<_, _≤_}
+use Prim.Native.Nat.{_-_, _<_}
 use native.Mathlib.Omega.{arith}
 use Rattle.table.specs.Tables.{entryAt}
 use Rattle.reach.specs.Adding.{found, placeOf, room-count, adds-room}
