@@ -68,7 +68,7 @@ reached-below t sound S i reaches =
     (both-parts (S (f .0)) (namesImport (operandsOf (entryAt t (f .0))) i) (f .2) .1)
 
 -- so past them none is reached
-no-import : (t : Table) → Sound t → (S : Entries) (i : ℕ) → t .q ≤ i → reachesImport t S i ≡ false
+pub no-import : (t : Table) → Sound t → (S : Entries) (i : ℕ) → t .q ≤ i → reachesImport t S i ≡ false
 no-import t sound S i past =
     same-test (reachesImport t S i) false (λ reaches. let below = reached-below t sound S i reaches in omega arith) (λ none. absurd none)
 
