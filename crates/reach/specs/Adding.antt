@@ -80,6 +80,7 @@ module _ {f : Found} {j : ℕ} (room : Room f) (slot : j < limits .slots) (unset
       let more = count-set (f .marks) j (omega (arith, room .marks)) unset in
       omega (arith, room .marks, room .counted, more, count-le (set (f .marks) j true), length-set (f .marks) j true)
 
+  -- one entry more leaves room
   next-room : Room (next f j)
   next-room =
       record {
@@ -108,18 +109,22 @@ pub record Listed (n : ℕ) (f : Found) : Type 0 where
   pub placed : (o : ℕ) → T (marked f o) → (p : ℕ) × (p < f .count) × (placeOf f p ≡ o)
 
 module _ {f : Found} {j : ℕ} (room : Room f) (slot : j < limits .slots) (unset : marked f j ≡ false) where
+  -- it is marked
   next-marked : T (marked (next f j) j)
   next-marked = rw (getD-set-same (f .marks) j true false (omega (arith, room .marks))) tt
 
+  -- and nothing else that was not
   next-only : (o : ℕ) → T (marked (next f j) o) → T (marked f o) ⊎ (o ≡ j)
   next-only o is = elim (ℕ-discrete o j) [
     | yes same ↦ inr same
     | no other ↦ inl (rw (getD-set-other (f .marks) j o true false other) at is)
   ]
 
+  -- it stands last
   next-last : placeOf (next f j) (f .count) ≡ j
   next-last = getD-set-same (f .order) (f .count) j 0 (omega (arith, room .order, room-left room slot unset))
 
+  -- what was found before it stays
   next-grows : Grows f (next f j)
   next-grows =
       record {
@@ -131,6 +136,7 @@ module _ {f : Found} {j : ℕ} (room : Room f) (slot : j < limits .slots) (unset
         ];
       }
 
+  -- and the places hold the marked entries as before
   next-listed : {n : ℕ} → Listed n f → j < n → Listed n (next f j)
   next-listed {n} listed below =
       record {

@@ -127,9 +127,11 @@ module _ {t : Table} {k : ℕ} {before last : List ℕ} {f : Found} {head : ℕ}
   abbrev followed : ℕ
   followed = placeOf f head
 
+  -- it is an entry of the table
   followed-below : followed < t .n
   followed-below = following .held .listed .below head some
 
+  -- and it is marked
   followed-marked : T (marked f followed)
   followed-marked = following .held .listed .there head some
 
@@ -141,10 +143,11 @@ module _ {t : Table} {k : ℕ} {before last : List ℕ} {f : Found} {head : ℕ}
       let earlier = operand-earlier t followed (operandsOf (entryAt t followed)) (sound .operands followed followed-below) o is in
       (omega (arith, followed-below), leads-named t followed o slot mine)
 
-  -- and to the updates that the link leads through
+  -- it reads the variable whose link is cut, if any
   reads : y ≡ variableNamed (apartOf (entryAt t followed) .first)
   reads = named ∙ ap (λ (p : Apart). variableNamed (p .first)) apart
 
+  -- it leads to the updates that the link leads through
   to-update : (o : ℕ) → List·Memᴰ o (linkedFrom before link) → (o < t .n) × T (leadsTo t followed o)
   to-update o among =
       elim (decLt y (limits .variables)) [
@@ -157,16 +160,19 @@ module _ {t : Table} {k : ℕ} {before last : List ℕ} {f : Found} {head : ℕ}
             absurd (List·Memᴰ·not-nil (subst (List·Memᴰ o) (linked-none before link (omega (arith, replaced .was, no-link sound following y (omega arith)))) among))
       ]
 
-  -- what was found stays
+  -- the operands are reached
   held-operands : Held t k g
   held-operands = held-more (following .held) operands followed followed-below (sound .within .entries) followed-marked to-operand
 
+  -- what was found stays when they are added
   added : Grows f g
   added = adds-grows operands (following .held .listed .room)
 
+  -- and when the updates are
   linked-on : Grows g h
   linked-on = adds-grows links (held-operands .listed .room)
 
+  -- so what was marked is marked in the end
   kept : (o : ℕ) → T (marked f o) → T (marked h o)
   kept o is = linked-on .kept o (added .kept o is)
 

@@ -1,6 +1,6 @@
 // The entries that an entry leads to, and all that those lead to in turn.
 use crate::updates::Updates;
-use crate::updates::replace;
+use crate::updates::cut;
 use crate::updates::variable_named;
 use kinds::Apart;
 use kinds::Operand;
@@ -108,7 +108,7 @@ pub(crate) fn reached(t: Table, u: Updates, k: usize) -> [bool; Table::ENTRIES]
         let parts = apart_of(e);
         let first = parts.first;
         count = add_operands(parts, &mut marks, &mut order, count);
-        let link = replace(&mut last, variable_named(first), 0);
+        let link = cut(&mut last, variable_named(first));
         count = add_updates(&before, link, &mut marks, &mut order, count);
         head += 1;
     }

@@ -36,22 +36,20 @@ fn no_marks(refusal: Refusal) -> Reach
 pub fn of_entry(t: Table, entry: usize) -> Reach
     ensures { λ r. ⌜ ReachReply t entry (reachFault t entry) r ⌝ }
 {
-    match sound::fault(t) {
-        Answer::Accepted => {
-            if entry < t.n {
-                let marks = reached(t, linked(t), entry);
-                let touched = touched_by(t, &marks);
-                let imports = touched.imports;
-                Reach {
-                    answer: Answer::Accepted,
-                    entries: marks,
-                    imports: imports,
-                    clock: touched.clock,
-                }
-            } else {
-                no_marks(Refusal::NoEntry)
-            }
-        }
-        Answer::Refused(_) => no_marks(Refusal::Unsound),
+    let found = sound::fault(t);
+    if let Answer::Refused(_) = found {
+        return no_marks(Refusal::Unsound);
+    }
+    if t.n <= entry {
+        return no_marks(Refusal::NoEntry);
+    }
+    let marks = reached(t, linked(t), entry);
+    let touched = touched_by(t, &marks);
+    let imports = touched.imports;
+    Reach {
+        answer: Answer::Accepted,
+        entries: marks,
+        imports: imports,
+        clock: touched.clock,
     }
 }

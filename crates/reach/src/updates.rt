@@ -30,7 +30,7 @@ pub(crate) fn variable_named(o: Operand) -> usize
 }
 
 // Gives a variable another last link, and answers the one it had; past the slots there is none.
-pub(crate) fn replace(last: &mut [u16; Table::VARIABLES], x: usize, link: u16) -> u16
+fn replace(last: &mut [u16; Table::VARIABLES], x: usize, link: u16) -> u16
     requires { ⌜ length (now last) ≡ limits .variables ⌝ }
     ensures { λ r. ⌜ Replaced (now (last .entry)) x link (now (last .exit)) r ⌝ }
 {
@@ -40,6 +40,14 @@ pub(crate) fn replace(last: &mut [u16; Table::VARIABLES], x: usize, link: u16) -
         return was;
     }
     0
+}
+
+// Cuts the last link of a variable, and answers it.
+pub(crate) fn cut(last: &mut [u16; Table::VARIABLES], x: usize) -> u16
+    requires { ⌜ length (now last) ≡ limits .variables ⌝ }
+    ensures { λ r. ⌜ Replaced (now (last .entry)) x 0 (now (last .exit)) r ⌝ }
+{
+    replace(last, x, 0)
 }
 
 // One pass over the entries links every update to the one before it.

@@ -35,8 +35,8 @@ loop-holds c = search following-none
 add-operands-requires : tie.Need-add-operands-requires Inv-loop μ-loop
 add-operands-requires c κs = c .before .before .before .before .before .loop .inv .held .listed .room
 
-replace-requires : tie.Need-replace-requires Inv-loop μ-loop
-replace-requires c κs = c .before .before .before .before .before .before .before .before .loop .inv .slots
+cut-requires : tie.Need-cut-requires Inv-loop μ-loop
+cut-requires c κs = c .before .before .before .before .before .before .before .before .loop .inv .slots
 
 add-updates-requires : tie.Need-add-updates-requires Inv-loop μ-loop
 add-updates-requires c κs = (search needs, search link-slot, search adds-room)
@@ -64,7 +64,7 @@ reached-spec =
     (λ c κs. search needs)
     add-operands-requires
     (λ c κs. search needs)
-    replace-requires
+    cut-requires
     add-updates-requires
     (λ c. omega (arith, slots (turn c)))
     (λ c. omega (arith, slots (turn c)))
