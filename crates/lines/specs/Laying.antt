@@ -99,3 +99,7 @@ end-within room at (b ∷ text) within =
       | yes l ↦ rw (lt-ltb at room l) (end-within room (suc at) text (omega arith))
       | no h ↦ rw (le-ltb at room (omega arith)) (end-within room at text within)
     ]
+
+-- two layings of one text into one destination come to the same place and leave the same bytes
+pub lays-same : {dst text one two : List ℕ} {at next end : ℕ} → Lays dst at text one next → Lays dst at text two end → (next ≡ end) × (one ≡ two)
+lays-same first second = (first .place ∙ sym (second .place), first .bytes ∙ sym (second .bytes))
