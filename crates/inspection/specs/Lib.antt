@@ -1,2 +1,3 @@
 -- What `inspect` shows of a script.
 pub mod Inspected
+pub mod Marks

@@ -76,6 +76,10 @@ lays-then {dst} {at = at} {a = a} {b = b} one two =
           ∙ sym (end-join (length dst) at a b);
     }
 
+-- a text after a byte
+pub lays-first : {dst mid after : List ℕ} {at next end b : ℕ} {text : List ℕ} → Lays dst at (b ∷ []) mid next → Lays mid next text after end → Lays dst at (b ∷ text) after end
+lays-first one rest = lays-then one rest
+
 -- one byte more of a text
 pub lays-next : {dst mid after : List ℕ} {at next end : ℕ} (text : List ℕ) (i : ℕ) → Lays dst at (take i text) mid next → Lays mid next (getD text i 0 ∷ []) after end
     → i < length text → Lays dst at (take (i + 1) text) after end
