@@ -1,7 +1,7 @@
 -- In a sound table an entry leads to entries of the table: its operands stand earlier, its import is below q, its variable below v.
 use mathlib.Core.Bool.{Bool, true, false, _||_}
 use mathlib.Core.List.{List, [], _∷_}
-use mathlib.Core.Path.{_≡_, subst, sym}
+use mathlib.Core.Path.{_≡_, subst}
 use Prim.Native.Nat.{ℕ, _<_}
 use borrow.Author.Tests.{ltb-true}
 use lib.Dec.{T, ltb, eqb, eqb→eq}

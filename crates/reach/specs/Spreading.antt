@@ -9,8 +9,9 @@ use Rattle.bits.specs.Bits.{listTo}
 use Rattle.table.specs.declared.Table.{Table}
 use Rattle.table.specs.Limits.{limits}
 use Rattle.table.specs.Below.{someBelow}
+use Rattle.table.specs.Faults.{theFaults}
 use Rattle.reach.specs.declared.Reach.{Reach}
-use Rattle.reach.specs.Reaching.{Entries, leadsTo, reachesImport, reachesClock, reachFault, noMarks}
+use Rattle.reach.specs.Reaching.{Entries, isOperand, isRead, leadsTo, namesImport, readsClock, reachesImport, reachesClock, reachFault, noMarks}
 
 -- the set of the marked entries
 abbrev pub setOf : List Bool → Entries
@@ -47,3 +48,8 @@ reachReply t k (Answer.Refused r) = noMarks r
 -- the reach of an entry of any table
 unfoldable pub reachOf : Table → ℕ → Reach
 reachOf t k = reachReply t k (reachFault t k)
+
+-- names all that a reach is computed with: an example says `unfolding theReach`
+unfoldable pub theReach : Unit {0}
+unfolding theFaults listTo someBelow isOperand isRead leadsTo namesImport readsClock reachesImport reachesClock reachFault spread spreadTo reachedFrom marksOf reachOf
+theReach = tt

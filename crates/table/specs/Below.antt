@@ -35,15 +35,15 @@ refutes true p q = p
 refutes false p q = q
 
 -- one of two tests
-either-split : {X : Type 0} (a b : Bool) → (T a → X) → (T b → X) → T (a || b) → X
+pub either-split : {X : Type 0} (a b : Bool) → (T a → X) → (T b → X) → T (a || b) → X
 either-split true b f g t = f tt
 either-split false b f g t = g t
 
-either-left : (a b : Bool) → T a → T (a || b)
+pub either-left : (a b : Bool) → T a → T (a || b)
 either-left true b t = tt
 either-left false b t = absurd t
 
-either-right : (a b : Bool) → T b → T (a || b)
+pub either-right : (a b : Bool) → T b → T (a || b)
 either-right true b t = tt
 either-right false b t = t
 
