@@ -1,3 +1,4 @@
 -- What `inspect` shows of a script.
 pub mod Inspected
 pub mod Marks
+pub mod Rules
