@@ -2,3 +2,4 @@
 pub mod Inspected
 pub mod Marks
 pub mod Rules
+pub mod Scripts

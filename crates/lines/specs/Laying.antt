@@ -104,6 +104,10 @@ end-within room at (b ∷ text) within =
       | no h ↦ rw (le-ltb at room (omega arith)) (end-within room at text within)
     ]
 
+-- a text laid from the first byte on, and its end within the room
+pub lays-within : {dst after text : List ℕ} {next : ℕ} → Lays dst 0 text after next → Lays dst 0 text after next × (next ≤ length dst)
+lays-within {dst} {text = text} lays = (lays, subst (λ (n : ℕ). n ≤ length dst) (sym (lays .place)) (end-within (length dst) 0 text (omega arith)))
+
 -- two layings of one text into one destination come to the same place and leave the same bytes
 pub lays-same : {dst text one two : List ℕ} {at next end : ℕ} → Lays dst at text one next → Lays dst at text two end → (next ≡ end) × (one ≡ two)
 lays-same first second = (first .place ∙ sym (second .place), first .bytes ∙ sym (second .bytes))

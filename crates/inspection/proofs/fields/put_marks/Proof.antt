@@ -1,12 +1,12 @@
--- `inspection::rule::put_marks` meets its contract. The loop's invariant: the first i marks are laid; the measure is how many are left.
+-- `inspection::fields::put_marks` meets its contract. The loop's invariant: the first i marks are laid; the measure is how many are left.
 use Prim.Native.Nat.{_-_, _≤_}
 use native.Mathlib.Omega.{arith}
 use borrow.Author.Needs.{needs}
 use lib.ListN.{length, take}
 use Rattle.lines.specs.Laying.{Lays, lays-length}
 use Rattle.inspection.specs.Marks.{marksText, lays-no-marks, lays-next-mark, lays-all-marks}
-use Rattle.inspection.proofs.rule.put_marks.Statement.{statement}
-use Rattle.inspection.proofs.rule.put_marks.Tie as tie
+use Rattle.inspection.proofs.fields.put_marks.Statement.{statement}
+use Rattle.inspection.proofs.fields.put_marks.Tie as tie
 
 abbrev Inv-loop : tie.InvT-loop
 Inv-loop out₀ at marks next₀ i₀ out next i = (i ≤ length marks) × Lays out₀ at (marksText 0 (take i marks)) out next

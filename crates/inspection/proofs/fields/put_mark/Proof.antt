@@ -1,8 +1,8 @@
--- `inspection::rule::put_mark` meets its contract: by the mark.
+-- `inspection::fields::put_mark` meets its contract: by the mark.
 use borrow.Author.Needs.{needs}
 use Rattle.inspection.specs.Marks.{lays-marked, lays-unmarked}
-use Rattle.inspection.proofs.rule.put_mark.Statement.{statement}
-use Rattle.inspection.proofs.rule.put_mark.Tie as tie
+use Rattle.inspection.proofs.fields.put_mark.Statement.{statement}
+use Rattle.inspection.proofs.fields.put_mark.Tie as tie
 
 returns : tie.Need-returns
 returns c = rw (c .before .before .before .before .if1 .taken) (search lays-marked)
