@@ -6,16 +6,13 @@ use Rattle.inspection.proofs.lines.Statement.{statement}
 use Rattle.inspection.proofs.lines.Tie as tie
 
 rules-requires : tie.Need-rules-requires
-rules-requires c κs = let at = c .before .before .before .before .before .before .before .before in read-few (at .before .before .before .args .script .now) (at .read .ensures)
+rules-requires c κs = search read-few
 
 returns : tie.Need-returns
-returns c =
-    let at = c .before .before .before .before .before .before .before .before .before .before .before in
-    lays-within (search (lays-accepted, at .read .ensures, c .before .before .before .before .before .before .before .before .before .enum-told .given .1, c .before .before .before .before .before .before .script-line .ensures, c .before .before .rules .ensures))
+returns c = lays-within (search lays-accepted)
 
 returns-2 : tie.Need-returns-2
-returns-2 c =
-    lays-within (search (lays-refused, c .before .before .before .before .before .before .before .before .read .ensures, c .before .before .before .before .before .before .answer .given .1, c .before .before .before .number .ensures, c .before .before .refused-line .ensures))
+returns-2 c = lays-within (search lays-refused)
 
 pub lines-spec : {M : Type 1} → statement M
 lines-spec =
