@@ -3,3 +3,4 @@ pub mod Inspected
 pub mod Marks
 pub mod Rules
 pub mod Scripts
+pub mod Bounds

@@ -1,9 +1,11 @@
 -- A line in pieces: its first field, each later one with a space before it, and the line feed.
 use mathlib.Core.List.{List, [], _∷_, _++_, append-assoc, append-nil}
-use mathlib.Core.Path.{_≡_, refl, sym, _∙_, ap, subst}
-use Prim.Native.Nat.{ℕ}
+use mathlib.Core.Path.{_≡_, refl, sym, _∙_, ap}
+use Prim.Native.Nat.{ℕ, _+_}
+use native.Mathlib.Omega.{arith}
+use lib.ListN.{length, length-append}
 use Rattle.lines.specs.Text.{line}
-use Rattle.lines.specs.Laying.{Lays, lays-none, lays-then}
+use Rattle.lines.specs.Laying.{Lays, lays-then}
 
 -- fields with a space before each
 unfoldable pub spaced : List (List ℕ) → List ℕ
@@ -15,6 +17,10 @@ pub line-spaced : (f : List ℕ) (fs : List (List ℕ)) → line (f ∷ fs) ≡ 
 unfolding line spaced
 line-spaced f [] = refl
 line-spaced f (g ∷ fs) = ap (λ (l : List ℕ). f ++ (32 ∷ l)) (line-spaced g fs ∙ sym (append-assoc g (spaced fs) (10 ∷ [])))
+
+-- so a line is as long as those
+pub line-length : (f : List ℕ) (fs : List (List ℕ)) → length (line (f ∷ fs)) ≡ length f + length (spaced fs) + 1
+line-length f fs = ap length (line-spaced f fs) ∙ simp length-append (omega arith)
 
 -- some fields, and then some more
 pub spaced-more : (fs gs : List (List ℕ)) → spaced (fs ++ gs) ≡ spaced fs ++ spaced gs
