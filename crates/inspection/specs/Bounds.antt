@@ -24,7 +24,7 @@ use Rattle.reach.specs.declared.Reach.{Reach}
 use Rattle.reach.specs.Reaching.{reachFault}
 use Rattle.reach.specs.Spreading.{marksOf, reachReply, reachOf}
 use Rattle.lines.specs.Text.{decimal, alarmWord, scriptWord, refusedWord, line, scriptLine, scriptRefusedLine}
-use Rattle.lines.specs.Laying.{Lays}
+use Rattle.lines.specs.Laying.{Lays, laid}
 use Rattle.lines.specs.Decimals.{decimal-length}
 use Rattle.lines.specs.Spaced.{spaced, line-length}
 use Rattle.lines.specs.Whole.{laid-whole}
@@ -110,3 +110,64 @@ rules-length s t (suc k) low =
     let some = rules-length s t k (omega arith) in
     let one = at-length s t k (omega arith) in
     simp length-append (omega arith)
+
+-- a refusal's number has at most two digits
+number-low : (r : Refusal) → numberOf r < 100
+number-low Refusal.TooLong = omega arith
+number-low Refusal.Cut = omega arith
+number-low Refusal.Format = omega arith
+number-low Refusal.EntryCount = omega arith
+number-low Refusal.ImportCount = omega arith
+number-low Refusal.VariableCount = omega arith
+number-low Refusal.HeaderBits = omega arith
+number-low Refusal.TableLimits = omega arith
+number-low Refusal.Initial = omega arith
+number-low Refusal.Kind = omega arith
+number-low Refusal.Operand = omega arith
+number-low Refusal.Sort = omega arith
+number-low Refusal.Padding = omega arith
+number-low Refusal.Label = omega arith
+number-low Refusal.LeftOver = omega arith
+number-low Refusal.NoRoom = omega arith
+number-low Refusal.Range = omega arith
+number-low Refusal.StepCut = omega arith
+number-low Refusal.Time = omega arith
+number-low Refusal.StepImport = omega arith
+number-low Refusal.ImportOrder = omega arith
+number-low Refusal.ConditionReport = omega arith
+number-low Refusal.StepPadding = omega arith
+number-low Refusal.StepLeftOver = omega arith
+number-low Refusal.Unsound = omega arith
+number-low Refusal.NoEntry = omega arith
+
+-- the first line
+first-length : (n : ℕ) → n < 1000 → length (scriptLine n) ≤ 11
+unfolding scriptLine spaced
+first-length n low = let digits = decimal-length 2 n low in rw (line-length scriptWord (decimal n ∷ [])) (simp length-append (omega arith))
+
+-- a refused script's line
+refused-length : (r : Refusal) → length (scriptRefusedLine r) ≤ 18
+unfolding scriptRefusedLine spaced
+refused-length r =
+    let digits = decimal-length 1 (numberOf r) (number-low r) in
+    rw (line-length scriptWord (refusedWord ∷ decimal (numberOf r) ∷ [])) (simp length-append (omega arith))
+
+-- what is printed
+lines-length : (s : List ℕ) (m : Got Table) → ((t : Table) (end : ℕ) → m ≡ got t end → t .n ≤ limits .entries) → length (linesOf s m) ≤ 98304
+lines-length s (got t end) few =
+    let entries = few t end refl in
+    let first = first-length (t .n) (omega arith) in
+    let rules = rules-length s t (t .n) (omega arith) in
+    simp length-append (omega arith)
+lines-length s (refused r) few = let line = refused-length r in omega arith
+
+-- 128 rules of 740 bytes, and the first line
+pub inspected-fits : (script : List ℕ) → length (inspected script) ≤ 98304
+unfolding inspected
+inspected-fits script = lines-length script (scriptOf script) (λ t end e. read-within script t end e .entries)
+
+-- so where there is room for that many bytes, the bytes that are filled are what is printed
+pub shown-whole : (script dst after : List ℕ) (r : ℕ) → 98304 ≤ length dst → Lays dst 0 (inspected script) after r → take r after ≡ inspected script
+shown-whole script dst after r room lays =
+    let whole = laid-whole dst (inspected script) (omega (arith, inspected-fits script)) in
+    (λ i. take (lays .place i) (lays .bytes i)) ∙ ap (λ (n : ℕ). take n (laid dst 0 (inspected script))) (whole .0) ∙ whole .1
