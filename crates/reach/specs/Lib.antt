@@ -5,3 +5,9 @@ pub mod Counting
 pub mod Spreading
 pub mod Spread
 pub mod Shown
+pub mod Leading
+pub mod Adding
+pub mod Linking
+pub mod Following
+pub mod Touching
+pub mod Replying

@@ -60,7 +60,7 @@ slots-keep slots marks room j =
     ]
 
 -- no entry of a sound table names an import that is not there
-no-import : (t : Table) → Sound t → (S : Entries) (i : ℕ) → t .q ≤ i → reachesImport t S i ≡ false
+pub no-import : (t : Table) → Sound t → (S : Entries) (i : ℕ) → t .q ≤ i → reachesImport t S i ≡ false
 unfolding reachesImport
 no-import t sound S i past =
     same-test
