@@ -4,7 +4,6 @@ mod rule;
 
 use fields::put_number;
 use fields::put_word;
-use reach::Reach;
 use refusals::Answer;
 use rule::rule_lines;
 use table::Table;
@@ -13,21 +12,8 @@ ghost use Prim.Native.Nat.{_<_, _≤_};
 ghost use lib.ListN.{length};
 ghost use Rattle.lines.specs.Laying.{Lays};
 ghost use Rattle.lines.specs.Text.{decimal, scriptWord, refusedWord, line, scriptLine};
-ghost use Rattle.reach.specs.Reaching.{reachFault, ReachReply};
 ghost use Rattle.inspection.specs.Inspected.{rulesTo, inspected};
 ghost use Rattle.inspection.specs.Rules.{linesAt};
-
-// TEMPORARY
-fn of_entry(t: Table, k: usize) -> Reach
-    ensures { λ r. ⌜ ReachReply t k (reachFault t k) r ⌝ }
-{
-    Reach {
-        answer: Answer::Accepted,
-        entries: [false; Table::ENTRIES],
-        imports: [false; Table::IMPORTS],
-        clock: false,
-    }
-}
 
 // "script N"
 fn script_line(out: &mut [u8], n: usize) -> usize
@@ -56,7 +42,7 @@ fn entry_lines(s: &[u8], t: Table, k: usize, out: &mut [u8], at: usize) -> usize
     let slot = t.entries[k];
     let e = slot.entry;
     if labels::labelled(e) {
-        return rule_lines(s, k, e, of_entry(t, k), out, at);
+        return rule_lines(s, k, e, reach::of_entry(t, k), out, at);
     }
     at
 }

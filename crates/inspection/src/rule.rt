@@ -50,7 +50,14 @@ fn clock_line(out: &mut [u8], at: usize, k: usize, clock: bool) -> usize
 }
 
 // The four lines of entry k of a script.
-pub(crate) fn rule_lines(s: &[u8], k: usize, e: Entry, reach: Reach, out: &mut [u8], at: usize) -> usize
+pub(crate) fn rule_lines(
+    s: &[u8],
+    k: usize,
+    e: Entry,
+    reach: Reach,
+    out: &mut [u8],
+    at: usize,
+) -> usize
     ensures { λ r. ⌜ Lays (now (out .entry)) at (ruleLines (now (s .entry)) k e reach) (now (out .exit)) r ⌝ }
 {
     let mut number: u8 = 0;

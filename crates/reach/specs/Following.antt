@@ -173,12 +173,12 @@ module _ {t : Table} {k : ℕ} {before last : List ℕ} {f : Found} {head : ℕ}
   to-update o among =
       elim (decLt y (limits .variables)) [
         | yes slot ↦
-          let whole = following .links y slot in
-          let mine = subst (λ (l : ℕ). List·Memᴰ o (linkedFrom before l)) (replaced .was) among in
-          let is = along-updates linked y slot _ _ (whole .1) (whole .0) o mine in
-          (is .0, leads-update t followed o (rw reads at slot) (rw reads at (is .1)))
+            let whole = following .links y slot in
+            let mine = subst (λ (l : ℕ). List·Memᴰ o (linkedFrom before l)) (replaced .was) among in
+            let is = along-updates linked y slot _ _ (whole .1) (whole .0) o mine in
+            (is .0, leads-update t followed o (rw reads at slot) (rw reads at (is .1)))
         | no past ↦
-          absurd (List·Memᴰ·not-nil (subst (List·Memᴰ o) (linked-none before link (omega (arith, replaced .was, no-link sound following y (omega arith)))) among))
+            absurd (List·Memᴰ·not-nil (subst (List·Memᴰ o) (linked-none before link (omega (arith, replaced .was, no-link sound following y (omega arith)))) among))
       ]
 
   -- what was found stays

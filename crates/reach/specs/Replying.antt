@@ -42,11 +42,13 @@ module _ (t : Table) {found : Answer} (judged : found ≡ tableFault t) where
         → ReachReply t k (reachFault t k) (shown marks touched)
     unfolding reachFault unsoundTable
     reply-shown good entry reached touches =
-        rw (sym judged ∙ good, lt-ltb k (t .n) entry)
-        (refl, record {
-          slots = (reached .slots, touches .slots);
-          entries = reached .least;
-          unused = reached .unused;
-          imports = touches .imports;
-          clock = touches .clock;
-        })
+        rw (sym judged ∙ good, lt-ltb k (t .n) entry) (
+          refl,
+          record {
+            slots = (reached .slots, touches .slots);
+            entries = reached .least;
+            unused = reached .unused;
+            imports = touches .imports;
+            clock = touches .clock;
+          },
+        )

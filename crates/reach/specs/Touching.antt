@@ -85,7 +85,7 @@ module _ {t : Table} {marks imports : List Bool} {clock : Bool} {k : ℕ} (touch
         slots = rw marked (length-set imports named true ∙ touching .slots);
         names = λ i slot.
             let here : eqb named i ≡ namesImport (operandsOf (entryAt t k)) i =
-                ap (λ (n : ℕ). eqb n i) (names ∙ ap (λ (p : Apart). importNamed (p .first)) apart) ∙ sym (import-first (operandsOf (entryAt t k)) i slot) in
+            ap (λ (n : ℕ). eqb n i) (names ∙ ap (λ (p : Apart). importNamed (p .first)) apart) ∙ sym (import-first (operandsOf (entryAt t k)) i slot) in
             rw marked
             (marked-or imports named i (omega (arith, touching .slots))
             ∙ ap₂ _||_ (touching .names i slot) here
