@@ -4,3 +4,4 @@ pub mod Marks
 pub mod Rules
 pub mod Scripts
 pub mod Bounds
+pub mod Examples
