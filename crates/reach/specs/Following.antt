@@ -3,7 +3,7 @@ use mathlib.Core.Bool.{Bool, true, false}
 use mathlib.Core.List.{List, [], _∷_, List·Memᴰ, List·Memᴰ·head, List·Memᴰ·not-nil, List·Memᴰ·eq-of-singleton}
 use mathlib.Core.Logic.{_⊎_, inl, inr, ⊎-elim}
 use mathlib.Core.Path.{_≡_, refl, sym, ap, subst, _∙_}
-use Prim.Native.Nat.{ℕ, suc, _+_, _-_, _<_, _≤_}
+use Prim.Native.Nat.{ℕ, _+_, _<_, _≤_}
 use native.Mathlib.Decide.{ℕ-discrete, decLt}
 use native.Mathlib.Nat.{not-suc-le-zero}
 use native.Mathlib.Omega.{arith}
@@ -23,35 +23,11 @@ use Rattle.reach.specs.Reaching.{Entries, leadsTo, Closed, Least}
 use Rattle.reach.specs.Naming.{operand-earlier, read-below}
 use Rattle.reach.specs.Counting.{countOf}
 use Rattle.reach.specs.Spreading.{setOf}
-use Rattle.reach.specs.Leading.{variableNamed, entriesNamed, updates, among-operand, led-either, leads-named, leads-update}
-use Rattle.reach.specs.Adding.{Found, found, marked, placeOf, Room, Adds, nothing, adds-joined, adds-room, Grows, Listed, adds-grows, adds-marked, adds-only, adds-listed}
-use Rattle.reach.specs.Linking.{lastUpdate, Link, Falls, Linked, Links, linkedFrom, Replaced, last-le, last-is, last-after, linked-none, linked-next, falls-less, along-updates, updates-along}
-
--- the links are followed as far as a link: f was there before, and g is found by then
-pub record Passing (before : List ℕ) (from : ℕ) (f : Found) (link : ℕ) (g : Found) : Type 0 where
-  pub slots : link ≤ limits .slots
-  pub room : Room g
-  pub onward : (h : Found) → Adds g (linkedFrom before link) h → Adds f (linkedFrom before from) h
-
--- none is followed yet
-pub passing-none : (before : List ℕ) (from : ℕ) {f : Found} → from ≤ limits .slots → Room f → Passing before from f from f
-passing-none before from slots room = record { slots = slots; room = room; onward = λ h adds. adds }
-
-module _ {before : List ℕ} {from : ℕ} {f : Found} {link : ℕ} {g : Found} (passing : Passing before from f link g) where
-  -- one more
-  pub passing-more : {h : Found} → Falls before → 0 < link → Adds g ((link - 1) ∷ []) h → Passing before from f (getD before (link - 1) 0) h
-  passing-more falls more adds =
-      record {
-        slots = omega (arith, passing .slots, falls-less link falls more);
-        room = adds-room adds (passing .room);
-        onward = λ i rest.
-            let same : suc (link - 1) ≡ link = omega arith in
-            passing .onward i (subst (λ (l : ℕ). Adds g (linkedFrom before l) i) same (rw (linked-next falls (link - 1)) (adds-joined adds rest)));
-      }
-
-  -- all are
-  pub passing-all : link ≤ 0 → Adds f (linkedFrom before from) g
-  passing-all none = passing .onward g (rw (linked-none before link none) nothing)
+use Rattle.reach.specs.Named.{variableNamed, entriesNamed, among-operand}
+use Rattle.reach.specs.Leading.{updates, led-either, leads-named, leads-update}
+use Rattle.reach.specs.Adding.{Found, found, marked, placeOf, Room, Adds, Grows, Listed, adds-grows, adds-marked, adds-only, adds-listed}
+use Rattle.reach.specs.Linking.{Link, Linked, Links, Replaced, last-le, last-is, last-after}
+use Rattle.reach.specs.Along.{linkedFrom, linked-none, along-updates, updates-along}
 
 -- what is found is reached: every closed set that holds the entry holds it
 pub record Held (t : Table) (k : ℕ) (f : Found) : Type 0 where

@@ -1,9 +1,8 @@
 -- The updates of each variable, linked from the last to the first: a link is one more than an update's entry, and 0 where there is none.
 use mathlib.Core.Bool.{Bool, true, false, cond}
-use mathlib.Core.List.{List, [], _∷_, List·Memᴰ, List·Memᴰ·head, List·Memᴰ·tail, List·Memᴰ·not-nil, List·Memᴰ·cases-cons}
-use mathlib.Core.Logic.{⊎-elim}
+use mathlib.Core.List.{List, []}
 use mathlib.Core.Path.{_≡_, refl, sym, ap, _∙_}
-use Prim.Native.Nat.{ℕ, zero, suc, _+_, _-_, _<_, _≤_}
+use Prim.Native.Nat.{ℕ, zero, suc, _+_, _<_, _≤_}
 use native.Mathlib.Decide.{ℕ-discrete, decLt}
 use native.Mathlib.Nat.{not-suc-le-zero}
 use native.Mathlib.Numerals.{add-one}
@@ -19,7 +18,8 @@ use Rattle.table.specs.Tables.{entryAt}
 use Rattle.kinds.specs.declared.Apart.{Apart}
 use Rattle.kinds.specs.Apart.{apartOf}
 use Rattle.reach.specs.declared.updates.Updates.{Updates}
-use Rattle.reach.specs.Leading.{variableNamed, updates, update-named}
+use Rattle.reach.specs.Named.{variableNamed}
+use Rattle.reach.specs.Leading.{updates, update-named}
 
 -- the link to the last update of variable x before entry k
 unfoldable pub lastUpdate : Table → ℕ → ℕ → ℕ
@@ -44,16 +44,6 @@ pub record Links (t : Table) (u : Updates) : Type 0 where
   pub slots : length (u .last) ≡ limits .variables
   pub last : (x : ℕ) → x < limits .variables → getD (u .last) x 0 ≡ lastUpdate t x (t .n)
   pub before : Linked t (u .before)
-
--- the entries that the links lead through, at most so many
-unfoldable pub along : List ℕ → ℕ → ℕ → List ℕ
-along before zero l = []
-along before (suc most) zero = []
-along before (suc most) (suc j) = j ∷ along before most (getD before j 0)
-
--- the entries that the links lead through: each stands before the one that led to it
-abbrev pub linkedFrom : List ℕ → ℕ → List ℕ
-linkedFrom before l = along before l l
 
 -- a link to x that is replaced: what it was, and what it is then; past the slots there is none
 pub record Replaced (last : List ℕ) (x link : ℕ) (after : List ℕ) (r : ℕ) : Type 0 where
@@ -177,60 +167,3 @@ linking-all {t} {last} {before} {k} linking past =
       last = λ x slot. linking .lasts x slot ∙ ap (lastUpdate t x) all;
       before = record { falls = linking .falls; earlier = λ x j slot h is. linking .earlier x j slot (omega arith) is };
     }
-
--- a link leads below itself
-pub falls-less : {before : List ℕ} (l : ℕ) → Falls before → 0 < l → getD before (l - 1) 0 < l
-falls-less l falls some = omega (arith, falls .lower (l - 1))
-
--- from 0 no link leads on
-pub linked-none : (before : List ℕ) (l : ℕ) → l ≤ 0 → linkedFrom before l ≡ []
-unfolding along
-linked-none before zero none = refl
-linked-none before (suc l) none = absurd (not-suc-le-zero none)
-
-module _ {before : List ℕ} (falls : Falls before) where
-  -- as many as lead through are enough
-  along-enough : (most more l : ℕ) → l ≤ most → l ≤ more → along before most l ≡ along before more l
-  unfolding along
-  along-enough zero zero l h more = refl
-  along-enough zero (suc more) zero h k = refl
-  along-enough zero (suc more) (suc j) h k = absurd (not-suc-le-zero h)
-  along-enough (suc most) zero zero h k = refl
-  along-enough (suc most) zero (suc j) h k = absurd (not-suc-le-zero k)
-  along-enough (suc most) (suc more) zero h k = refl
-  along-enough (suc most) (suc more) (suc j) h k =
-      let lower = falls .lower j in ap (λ (js : List ℕ). j ∷ js) (along-enough most more (getD before j 0) (omega arith) (omega arith))
-
-  -- an entry, and those that its link leads through
-  pub linked-next : (j : ℕ) → linkedFrom before (suc j) ≡ j ∷ linkedFrom before (getD before j 0)
-  unfolding along
-  linked-next j = ap (λ (js : List ℕ). j ∷ js) (along-enough j (getD before j 0) (getD before j 0) (falls .lower j) (omega arith))
-
-module _ {t : Table} {before : List ℕ} (linked : Linked t before) (x : ℕ) (slot : x < limits .variables) where
-  -- an update's own link leads to an update
-  link-earlier : (j : ℕ) → j < t .n → T (updates t x j) → Link t x (getD before j 0)
-  link-earlier j below is = rw (linked .earlier x j slot below is) (last-is t x j)
-
-  -- links lead through updates only
-  pub along-updates : (most l : ℕ) → l ≤ t .n → Link t x l → (o : ℕ) → List·Memᴰ o (along before most l) → (o < t .n) × T (updates t x o)
-  unfolding along
-  along-updates zero l few link o among = absurd (List·Memᴰ·not-nil among)
-  along-updates (suc most) zero few link o among = absurd (List·Memᴰ·not-nil among)
-  along-updates (suc most) (suc j) few link o among =
-      let lower = linked .falls .lower j in
-      let onward = along-updates most (getD before j 0) (omega arith) (link-earlier j few (link .is j refl)) o in
-      ⊎-elim (λ same. (omega arith, rw same (link .is j refl))) onward (List·Memᴰ·cases-cons among)
-
-  -- and through all of them
-  pub updates-along : (most l : ℕ) → l ≤ most → l ≤ t .n → Link t x l → (o : ℕ) → o < l → T (updates t x o) → List·Memᴰ o (along before most l)
-  unfolding along
-  updates-along zero l h few link o before is = absurd (omega arith)
-  updates-along (suc most) zero h few link o before is = absurd (not-suc-le-zero before)
-  updates-along (suc most) (suc j) h few link o earlier is =
-      let lower = linked .falls .lower j in
-      let mine = link .is j refl in
-      let onward = updates-along most (getD before j 0) (omega arith) (omega arith) (link-earlier j few mine) o in
-      elim (ℕ-discrete o j) [
-        | yes e ↦ List·Memᴰ·head e
-        | no e ↦ List·Memᴰ·tail (onward (omega (arith, linked .earlier x j slot few mine, last-after t x j o (omega arith) is)) is)
-      ]

@@ -1,19 +1,17 @@
 -- What a reach answers, from what its parts were found to be.
 use mathlib.Core.List.{List}
 use mathlib.Core.Bool.{Bool}
-use mathlib.Core.Path.{_≡_, refl, sym, ap, subst, _∙_}
+use mathlib.Core.Path.{_≡_, refl, sym, _∙_}
 use Prim.Native.Nat.{ℕ, _<_, _≤_}
 use borrow.Author.Tests.{lt-ltb, le-ltb}
-use lib.Dec.{ltb}
 use Rattle.refusals.specs.declared.Refusal.{Refusal}
 use Rattle.refusals.specs.declared.Answer.{Answer}
-use Rattle.refusals.specs.Numbering.{unless, andThen}
 use Rattle.table.specs.declared.Table.{Table}
-use Rattle.table.specs.Faults.{tableFault, asUnsound, unsoundTable}
+use Rattle.table.specs.Faults.{tableFault, unsoundTable}
 use Rattle.table.specs.Sound.{Sound, sound-table}
 use Rattle.reach.specs.declared.Reach.{Reach}
 use Rattle.reach.specs.declared.touched.Touched.{Touched}
-use Rattle.reach.specs.Reaching.{Shows, reachFault, noMarks, ReachReply}
+use Rattle.reach.specs.Reaching.{reachFault, noMarks, ReachReply}
 use Rattle.reach.specs.Following.{Reached}
 use Rattle.reach.specs.Touching.{Touches}
 

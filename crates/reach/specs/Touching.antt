@@ -9,11 +9,11 @@ use native.Mathlib.Omega.{arith}
 use borrow.Author.Tests.{eq-eqb, ne-eqb}
 use lib.Dec.{eqb}
 use lib.ListN.{length, getD, set, replicate, length-set, List·getD-eq-default}
-use lib.Seq.{getD-set-same, getD-set-other, set-out}
+use lib.Seq.{getD-set-same, getD-set-other}
 use Rattle.bits.specs.Filled.{getD-padded}
 use Rattle.table.specs.declared.Table.{Table}
 use Rattle.table.specs.Limits.{limits}
-use Rattle.table.specs.Kinds.{kindOf, operandsOf}
+use Rattle.table.specs.Kinds.{operandsOf}
 use Rattle.table.specs.Below.{someBelow}
 use Rattle.table.specs.Tables.{entryAt}
 use Rattle.table.specs.Sound.{Sound}
@@ -23,7 +23,7 @@ use Rattle.reach.specs.declared.touched.Touched.{Touched}
 use Rattle.reach.specs.Reaching.{namesImport, readsClock, reachesImport, reachesClock}
 use Rattle.reach.specs.Spreading.{setOf}
 use Rattle.reach.specs.Shown.{no-import}
-use Rattle.reach.specs.Leading.{importNamed, import-first}
+use Rattle.reach.specs.Named.{importNamed, import-first}
 
 -- what marked entries touch: "It reaches an import exactly if kind 0, 9 or 20 in the set names it, and the clock exactly if the set holds kind 19 or 21."
 pub record Touches (t : Table) (marks : List Bool) (r : Touched) : Type 0 where

@@ -1,6 +1,6 @@
 // The entries that an entry leads to, and all that those lead to in turn.
 use crate::updates::Updates;
-use crate::updates::replace;
+use crate::updates::cut;
 use crate::updates::variable_named;
 use kinds::Apart;
 use kinds::Operand;
@@ -12,8 +12,9 @@ ghost use Prim.Native.Nat.{_<_, _≤_};
 ghost use Rattle.table.specs.Limits.{limits};
 ghost use Rattle.table.specs.Sound.{Sound};
 ghost use Rattle.reach.specs.Adding.{found, Adds, Room};
-ghost use Rattle.reach.specs.Leading.{entryNamed, entriesNamed};
-ghost use Rattle.reach.specs.Linking.{Falls, Links, linkedFrom};
+ghost use Rattle.reach.specs.Along.{linkedFrom};
+ghost use Rattle.reach.specs.Linking.{Falls, Links};
+ghost use Rattle.reach.specs.Named.{entryNamed, entriesNamed};
 ghost use Rattle.reach.specs.Following.{Reached};
 
 // The entry that an operand names; where it names none, a number past the slots.
@@ -107,7 +108,7 @@ pub(crate) fn reached(t: Table, u: Updates, k: usize) -> [bool; Table::ENTRIES]
         let parts = apart_of(e);
         let first = parts.first;
         count = add_operands(parts, &mut marks, &mut order, count);
-        let link = replace(&mut last, variable_named(first), 0);
+        let link = cut(&mut last, variable_named(first));
         count = add_updates(&before, link, &mut marks, &mut order, count);
         head += 1;
     }

@@ -8,7 +8,7 @@ ghost use lib.Dec.{eqb};
 ghost use lib.ListN.{length, set};
 ghost use Rattle.table.specs.Limits.{limits};
 ghost use Rattle.table.specs.Sound.{Sound};
-ghost use Rattle.reach.specs.Leading.{importNamed};
+ghost use Rattle.reach.specs.Named.{importNamed};
 ghost use Rattle.reach.specs.Touching.{Touches};
 
 // The marks of the imports, and whether the clock is reached.

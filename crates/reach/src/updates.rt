@@ -6,7 +6,7 @@ ghost use mathlib.Core.Path.{_≡_};
 ghost use lib.ListN.{length};
 ghost use Rattle.table.specs.Limits.{limits};
 ghost use Rattle.table.specs.Sound.{Sound};
-ghost use Rattle.reach.specs.Leading.{variableNamed};
+ghost use Rattle.reach.specs.Named.{variableNamed};
 ghost use Rattle.reach.specs.Linking.{Replaced, Links};
 
 // Links to updates: of each variable to its last, and of each update to the one before it of the same variable.
@@ -30,7 +30,7 @@ pub(crate) fn variable_named(o: Operand) -> usize
 }
 
 // Gives a variable another last link, and answers the one it had; past the slots there is none.
-pub(crate) fn replace(last: &mut [u16; Table::VARIABLES], x: usize, link: u16) -> u16
+fn replace(last: &mut [u16; Table::VARIABLES], x: usize, link: u16) -> u16
     requires { ⌜ length (now last) ≡ limits .variables ⌝ }
     ensures { λ r. ⌜ Replaced (now (last .entry)) x link (now (last .exit)) r ⌝ }
 {
@@ -40,6 +40,14 @@ pub(crate) fn replace(last: &mut [u16; Table::VARIABLES], x: usize, link: u16) -
         return was;
     }
     0
+}
+
+// Cuts the last link of a variable, and answers it.
+pub(crate) fn cut(last: &mut [u16; Table::VARIABLES], x: usize) -> u16
+    requires { ⌜ length (now last) ≡ limits .variables ⌝ }
+    ensures { λ r. ⌜ Replaced (now (last .entry)) x 0 (now (last .exit)) r ⌝ }
+{
+    replace(last, x, 0)
 }
 
 // One pass over the entries links every update to the one before it.

@@ -2,8 +2,7 @@
 use borrow.Author.Needs.{needs}
 use native.Mathlib.Omega.{arith}
 use Rattle.reach.specs.Adding.{found}
-use Rattle.reach.specs.Linking.{falls-less}
-use Rattle.reach.specs.Following.{Passing, passing-none, passing-more, passing-all}
+use Rattle.reach.specs.Along.{falls-less, Passing, passing-none, passing-more, passing-all}
 use Rattle.reach.proofs.following.add_updates.Statement.{statement}
 use Rattle.reach.proofs.following.add_updates.Tie as tie
 

@@ -1,6 +1,6 @@
 -- `reach::following::reached` meets its contract. The loop's invariant: the first entries found are followed; the measure is how many slots are left.
 use borrow.Author.Needs.{needs}
-use Prim.Native.Nat.{_-_, _<_, _≤_}
+use Prim.Native.Nat.{_-_, _<_}
 use native.Mathlib.Omega.{arith}
 use Rattle.table.specs.Tables.{entryAt}
 use Rattle.reach.specs.Adding.{found, placeOf, room-count, adds-room}
@@ -35,8 +35,8 @@ loop-holds c = search following-none
 add-operands-requires : tie.Need-add-operands-requires Inv-loop μ-loop
 add-operands-requires c κs = c .before .before .before .before .before .loop .inv .held .listed .room
 
-replace-requires : tie.Need-replace-requires Inv-loop μ-loop
-replace-requires c κs = c .before .before .before .before .before .before .before .before .loop .inv .slots
+cut-requires : tie.Need-cut-requires Inv-loop μ-loop
+cut-requires c κs = c .before .before .before .before .before .before .before .before .loop .inv .slots
 
 add-updates-requires : tie.Need-add-updates-requires Inv-loop μ-loop
 add-updates-requires c κs = (search needs, search link-slot, search adds-room)
@@ -64,7 +64,7 @@ reached-spec =
     (λ c κs. search needs)
     add-operands-requires
     (λ c κs. search needs)
-    replace-requires
+    cut-requires
     add-updates-requires
     (λ c. omega (arith, slots (turn c)))
     (λ c. omega (arith, slots (turn c)))
