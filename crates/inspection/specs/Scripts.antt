@@ -9,7 +9,6 @@ use Rattle.refusals.specs.Numbering.{numberOf}
 use Rattle.bits.specs.Reading.{Got, got, refused}
 use Rattle.table.specs.declared.Table.{Table}
 use Rattle.table.specs.Limits.{limits}
-use Rattle.table.specs.Sound.{Within}
 use Rattle.script.specs.declared.Script.{Script}
 use Rattle.script.specs.Reader.{scriptOf, scriptReply, readScript}
 use Rattle.roundtrip.specs.ReadAgain.{read-within}
