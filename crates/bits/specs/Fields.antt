@@ -1,5 +1,5 @@
 -- When a field is there, and when it isn't.
-use mathlib.Core.Bool.{Bool, true, false, cond, _&&_, and-false}
+use mathlib.Core.Bool.{Bool, true, false, cond, _&&_}
 use mathlib.Core.List.{List}
 use mathlib.Core.Path.{_≡_, refl, subst}
 use Prim.Native.Nat.{ℕ, _+_, _*_, _^_, _<_, _≤_}
@@ -11,10 +11,15 @@ use Rattle.bits.specs.declared.Field.{Field}
 use Rattle.bits.specs.Bits.{numberFrom, bitAt, bitsAt, wholly, widest, fieldAt}
 use Rattle.bits.specs.Digits.{bit-lt, number-lt}
 
+-- what isn't wholly there is missing
+missing-if : (narrow whole : Bool) (n : ℕ) → whole ≡ false → cond (narrow && whole) (Field.There n) Field.Missing ≡ Field.Missing
+missing-if true whole n e = rw e
+missing-if false whole n e = refl
+
 -- a field that would end past the bytes isn't there
 pub field-past : (s : List ℕ) (at w : ℕ) → 8 * length s < at + w → fieldAt s at w ≡ Field.Missing
 unfolding fieldAt
-field-past s at w h = rw (lt-leb (at + w) (8 * length s) h, and-false (leb w widest))
+field-past s at w h = missing-if (leb w widest) (wholly s at w) (bitsAt s at w) (lt-leb (at + w) (8 * length s) h)
 
 -- every other field is
 pub field-there : (s : List ℕ) (at w : ℕ) → w ≤ widest → at + w ≤ 8 * length s → fieldAt s at w ≡ Field.There (bitsAt s at w)

@@ -1,9 +1,11 @@
 -- "Reading goes from front to back and the first fault decides": one field after another, each judged before the next is taken.
+use mathlib.Core.Bool.{Bool, true, false}
 use mathlib.Core.List.{List}
-use mathlib.Core.Path.{_≡_, refl}
+use mathlib.Core.Path.{_≡_, refl, sym}
 use Prim.Native.Nat.{ℕ, _+_, _*_}
 use lib.Dec.{eqb}
 use lib.ListN.{length}
+use Rattle.replies.specs.Plain.{never}
 use Rattle.refusals.specs.declared.Refusal.{Refusal}
 use Rattle.refusals.specs.declared.Answer.{Answer}
 use Rattle.refusals.specs.Numbering.{unless}
@@ -42,6 +44,11 @@ _>>=_ m f = λ s at. onward (m s at) (λ a next. f a s next)
 abbrev pub judged : {A : Type 0} → Answer → A → ℕ → Got A
 judged Answer.Accepted a next = got a next
 judged (Answer.Refused r) a next = refused r
+
+-- a number that is refused stops all that follows
+pub stops : {B : Type 0} (b : Bool) (r : Refusal) (v next : ℕ) (f : ℕ → ℕ → Got B) → b ≡ false → onward (judged (unless b r) v next) f ≡ refused r
+stops false r v next f e = refl
+stops true r v next f e = never (sym e)
 
 -- whether reading went through
 abbrev pub answered : {A : Type 0} → Got A → Answer

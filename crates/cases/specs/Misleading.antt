@@ -18,7 +18,7 @@ use Rattle.step.specs.Steps.{Step}
 use Rattle.meaning.specs.declared.Givens.{Givens}
 use Rattle.meaning.specs.Places.{placesOf}
 use Rattle.meaning.specs.Meaning.{meaning}
-use Rattle.history.specs.History.{Moment, rowAt, Judge, judge, conditionBefore, heldBefore, givensAt, resultBy, theLogic}
+use Rattle.history.specs.History.{rowAt, Judge, judge, conditionBefore, heldBefore, givensAt, resultBy, theLogic}
 use Rattle.history.specs.Marked.{Case, answerBy, rules, p3, p8, p9end, trueThenUndefined, readThenUpdate}
 use Rattle.reach.specs.Reaching.{Entries, isOperand, isRead, readsUpdate, leadsTo, Closed, Least}
 use Rattle.cases.specs.Gate.{secondClosing}
@@ -136,9 +136,13 @@ earlierOnly t j o = isOperand (operandsOf (entryAt t j)) o || (ltb o j && readsU
 abbrev readAlone : Entries
 readAlone j = eqb j 0
 
+-- no entry stands before the first
+none-before : (o : ℕ) (b : Bool) → T (ltb o 0 && b) → ⊥
+none-before o b before = rw (leb·suc-zero o) at before
+
 read-alone-closed : Closed (earlierOnly readThenUpdate) 4 readAlone
 unfolding earlierOnly isOperand entryAt operandsOf updateOf
-read-alone-closed zero o hj ho inside leads = absurd (rw (leb·suc-zero o) at leads)
+read-alone-closed zero o hj ho inside leads = absurd (none-before o _ leads)
 read-alone-closed (suc j) o hj ho inside leads = absurd (rw (eqb·suc-zero j) at inside)
 
 -- under this reading the reach of the read is the read alone, and leaves the update out

@@ -4,3 +4,7 @@ pub mod Lazy
 pub mod Monitors
 pub mod Knows
 pub mod LazyMonitors
+pub mod Reaches
+pub mod Depends
+pub mod LazyReaches
+pub mod AgreementAlone

@@ -5,6 +5,7 @@ use mathlib.Core.Path.{_≡_, refl, sym, _∙_, ap}
 use Prim.Native.Nat.{ℕ, _+_, _%_, _<_, _≤_}
 use native.Mathlib.Omega.{arith}
 use borrow.Author.Tests.{eq-eqb, ne-eqb, lt-ltb, le-ltb}
+use lib.Dec.{ltb}
 use lib.IntN.{ℤ, pos}
 use lib.ListN.{length}
 use Rattle.refusals.specs.declared.Refusal.{Refusal}
@@ -12,7 +13,7 @@ use Rattle.refusals.specs.declared.Answer.{Answer}
 use Rattle.bits.specs.declared.Field.{Field}
 use Rattle.bits.specs.Bits.{fieldAt}
 use Rattle.bits.specs.Twos.{signed}
-use Rattle.bits.specs.Reading.{Got, got, refused, onward, judged}
+use Rattle.bits.specs.Reading.{Got, got, refused, onward, judged, stops}
 use Rattle.table.specs.declared.Entry.{Entry}
 use Rattle.table.specs.Limits.{limits}
 use Rattle.kinds.specs.declared.Operand.{Operand}
@@ -123,7 +124,7 @@ module _ (sorts : List ℕ) (events : List Bool) (q v k : ℕ) (s : List ℕ) (a
     -- "6: kind 25 to 31"
     pub past-kind : (kind : ℕ) → fieldAt s at 5 ≡ Field.There kind → 25 ≤ kind → Entered.Refused Refusal.Kind ≡ entered sorts events q v k s at
     unfolding entered entryBy
-    past-kind kind there past = rw (le-ltb (limits .script) (length s) short, there, le-ltb kind 25 past)
+    past-kind kind there past = rw (le-ltb (limits .script) (length s) short, there) (sym (ap enteredOf (stops (ltb kind 25) Refusal.Kind kind (at + 5) _ (le-ltb kind 25 past))))
 
     module _ (kind : ℕ) (there : fieldAt s at 5 ≡ Field.There kind) (known : kind < 25)
         (places : Apart) (placed : places ≡ apartOf (madeOf kind 0 0 0 (pos 0))) (a b c : Taking)

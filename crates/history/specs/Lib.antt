@@ -2,4 +2,5 @@
 pub mod History
 pub mod Offered
 pub mod Pairs
+pub mod Rows
 pub mod Marked

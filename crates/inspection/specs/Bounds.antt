@@ -18,7 +18,6 @@ use Rattle.table.specs.Limits.{limits}
 use Rattle.table.specs.Kinds.{kindOf, labelled}
 use Rattle.table.specs.Tables.{entryAt}
 use Rattle.script.specs.Reader.{scriptOf, labelOf, textOf}
-use Rattle.roundtrip.specs.ReadAgain.{read-within}
 use Rattle.parts.specs.Within.{label-of-short}
 use Rattle.reach.specs.declared.Reach.{Reach}
 use Rattle.reach.specs.Reaching.{reachFault}
@@ -31,6 +30,7 @@ use Rattle.lines.specs.Whole.{laid-whole}
 use Rattle.inspection.specs.Inspected.{propertyWord, entriesWord, importsWord, clockWord, yesOrNo, markedFrom, ruleWord, ruleLines, rulesTo, linesOf, inspected}
 use Rattle.inspection.specs.Marks.{marksText}
 use Rattle.inspection.specs.Rules.{linesAt}
+use Rattle.inspection.specs.Scripts.{script-few}
 
 -- marks whose numbers have at most so many digits
 marks-length : (d i : ℕ) (marks : List Bool) → i + length marks ≤ 10 ^ suc d → length (marksText i marks) ≤ length marks * (d + 2)
@@ -164,7 +164,7 @@ lines-length s (refused r) few = let line = refused-length r in omega arith
 -- 128 rules of 740 bytes, and the first line
 pub inspected-fits : (script : List ℕ) → length (inspected script) ≤ 98304
 unfolding inspected
-inspected-fits script = lines-length script (scriptOf script) (λ t end e. read-within script t end e .entries)
+inspected-fits script = lines-length script (scriptOf script) (script-few script)
 
 -- so where there is room for that many bytes, the bytes that are filled are what is printed
 pub shown-whole : (script dst after : List ℕ) (r : ℕ) → 98304 ≤ length dst → Lays dst 0 (inspected script) after r → take r after ≡ inspected script

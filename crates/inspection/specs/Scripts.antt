@@ -9,9 +9,10 @@ use Rattle.refusals.specs.Numbering.{numberOf}
 use Rattle.bits.specs.Reading.{Got, got, refused}
 use Rattle.table.specs.declared.Table.{Table}
 use Rattle.table.specs.Limits.{limits}
+use Rattle.table.specs.Sound.{sound-table}
 use Rattle.script.specs.declared.Script.{Script}
 use Rattle.script.specs.Reader.{scriptOf, scriptReply, readScript}
-use Rattle.roundtrip.specs.ReadAgain.{read-within}
+use Rattle.roundtrip.specs.ReadAgain.{read-sound}
 use Rattle.lines.specs.Text.{decimal, scriptWord, refusedWord, line, scriptLine, scriptRefusedLine}
 use Rattle.lines.specs.Laying.{Lays, lays-then}
 use Rattle.inspection.specs.Inspected.{rulesTo, linesOf, inspected}
@@ -27,15 +28,18 @@ refused-lines : (s : List ℕ) (m : Got Table) (r : Refusal) → scriptReply m .
 refused-lines s (got t end) r bad = absurd (let z : _≡_ {A = ℕ} 0 1 = cc bad in omega arith)
 refused-lines s (refused f) r bad = ap scriptRefusedLine (cc bad)
 
--- no more entries than there are slots
-few-entries : (m : Got Table) → ((t : Table) (end : ℕ) → m ≡ got t end → t .n ≤ limits .entries) → scriptReply m .table .n ≤ limits .entries
-few-entries (got t end) few = few t end refl
-few-entries (refused r) few = omega arith
+-- a script that is read has no more entries than there are slots
+pub script-few : (s : List ℕ) (t : Table) (end : ℕ) → scriptOf s ≡ got t end → t .n ≤ limits .entries
+script-few s t end e = sound-table t (read-sound s t end e) .within .entries
+
+-- nor has the empty table
+reply-few : (m : Got Table) → ((t : Table) (end : ℕ) → m ≡ got t end → t .n ≤ limits .entries) → scriptReply m .table .n ≤ limits .entries
+reply-few (got t end) few = few t end refl
+reply-few (refused r) few = omega arith
 
 pub read-few : {read : Script} (s : List ℕ) → read ≡ readScript s → read .table .n ≤ limits .entries
 unfolding readScript
-read-few s is =
-    subst (λ (x : Script). x .table .n ≤ limits .entries) (sym is) (few-entries (scriptOf s) (λ t end e. read-within s t end e .entries))
+read-few s is = subst (λ (x : Script). x .table .n ≤ limits .entries) (sym is) (reply-few (scriptOf s) (script-few s))
 
 module _ {dst mid after : List ℕ} {at next : ℕ} {read : Script} (s : List ℕ) where
   -- an accepted script's lines: the first one, and those of the rules

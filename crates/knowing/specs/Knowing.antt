@@ -26,7 +26,7 @@ use Rattle.monitor.specs.Stepping.{Walk, monitorAfter, advanced}
 use Rattle.knowing.specs.Recalling.{leftBy, recallOf, slotsOf}
 use Rattle.knowing.specs.Fitting.{HistoryFits}
 use Rattle.bits.specs.Filled.{list-is, list-all, getD-padded}
-use Rattle.knowing.specs.Rows.{row-length}
+use Rattle.history.specs.Rows.{row-length}
 use Rattle.knowing.specs.Imports.{reported-next}
 use Rattle.knowing.specs.Carrying.{carries}
 use Rattle.knowing.specs.Cells.{nothing-left, cells-all}

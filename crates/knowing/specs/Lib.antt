@@ -1,7 +1,6 @@
 -- The monitor knows the whole history: what it keeps is what the history leaves, step after step.
 pub mod Recalling
 pub mod Fitting
-pub mod Rows
 pub mod Carrying
 pub mod Cells
 pub mod Telling

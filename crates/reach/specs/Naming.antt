@@ -1,5 +1,4 @@
 -- In a sound table an entry leads to entries of the table: its operands stand earlier, its import is below q, its variable below v.
-use mathlib.Core.Bool.{Bool, true, false, _||_}
 use mathlib.Core.List.{List, [], _∷_}
 use mathlib.Core.Path.{_≡_, subst}
 use Prim.Native.Nat.{ℕ, _<_}
@@ -11,6 +10,7 @@ use Rattle.refusals.specs.Numbering.{unless}
 use Rattle.refusals.specs.Accepting.{unless-accepted, accepted-first, accepted-second}
 use Rattle.table.specs.declared.Table.{Table}
 use Rattle.table.specs.Kinds.{Operand, entry, imported, variable, constant}
+use Rattle.table.specs.Below.{either-split}
 use Rattle.table.specs.Faults.{operandFault, operandsFault}
 use Rattle.reach.specs.Reaching.{isOperand, isRead, namesImport}
 
@@ -25,11 +25,7 @@ operand-earlier t k [] good o is = absurd is
 operand-earlier t k (entry s a ∷ os) good o is =
     let first = accepted-first (unless (ltb a k) Refusal.Operand) _ (accepted-first (operandFault t k (entry s a)) (operandsFault t k os) good) in
     let later = accepted-second (operandFault t k (entry s a)) (operandsFault t k os) good in
-    here (eqb a o) (below a o k first) (operand-earlier t k os later o) is
-  where
-    here : (b : Bool) → (T b → o < k) → (T (isOperand os o) → o < k) → T (b || isOperand os o) → o < k
-    here true one rest is = one tt
-    here false one rest is = rest is
+    either-split (eqb a o) (isOperand os o) (below a o k first) (operand-earlier t k os later o) is
 operand-earlier t k (imported s i ∷ os) good o is = operand-earlier t k os (accepted-second (operandFault t k (imported s i)) (operandsFault t k os) good) o is
 operand-earlier t k (variable x ∷ os) good o is = operand-earlier t k os (accepted-second (operandFault t k (variable x)) (operandsFault t k os) good) o is
 operand-earlier t k (constant z ∷ os) good o is = operand-earlier t k os (accepted-second (operandFault t k (constant z)) (operandsFault t k os) good) o is

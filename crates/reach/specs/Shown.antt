@@ -59,18 +59,18 @@ slots-keep slots marks room j =
           ∙ sym (List·getD-eq-default marks false (omega arith))
     ]
 
--- no entry of a sound table names an import that is not there
-pub no-import : (t : Table) → Sound t → (S : Entries) (i : ℕ) → t .q ≤ i → reachesImport t S i ≡ false
+-- an import that entries of a sound table name is one of its imports
+pub reached-below : (t : Table) → Sound t → (S : Entries) (i : ℕ) → T (reachesImport t S i) → i < t .q
 unfolding reachesImport
-no-import t sound S i past =
-    same-test
-    (reachesImport t S i)
-    false
-    (λ reaches.
+reached-below t sound S i reaches =
     let f = some-found (t .n) (λ j. S j && namesImport (operandsOf (entryAt t j)) i) reaches in
-    let names = both-parts (S (f .0)) (namesImport (operandsOf (entryAt t (f .0))) i) (f .2) .1 in
-    let below = import-below t (f .0) (operandsOf (entryAt t (f .0))) (sound .operands (f .0) (f .1)) i names in omega arith)
-    (λ none. absurd none)
+    import-below t (f .0) (operandsOf (entryAt t (f .0))) (sound .operands (f .0) (f .1)) i
+    (both-parts (S (f .0)) (namesImport (operandsOf (entryAt t (f .0))) i) (f .2) .1)
+
+-- so past them none is reached
+pub no-import : (t : Table) → Sound t → (S : Entries) (i : ℕ) → t .q ≤ i → reachesImport t S i ≡ false
+no-import t sound S i past =
+    same-test (reachesImport t S i) false (λ reaches. let below = reached-below t sound S i reaches in omega arith) (λ none. absurd none)
 
 -- "A reach shows all three: its entries, its imports and whether it has the clock."
 shows-marks : (t : Table) (k : ℕ) → reachFault t k ≡ Answer.Accepted → Shows t k (marksOf t k)

@@ -1,7 +1,7 @@
 -- What an accepted answer says of its parts, and back.
 use mathlib.Core.Bool.{Bool, true, false}
 use mathlib.Core.Logic.{⊎-elim}
-use mathlib.Core.Path.{_≡_, refl, sym, subst}
+use mathlib.Core.Path.{_≡_, refl, sym, ap, subst}
 use Prim.Native.Nat.{ℕ, zero, suc, _<_}
 use native.Mathlib.Nat.{not-suc-le-zero, eq-or-lt-of-le, le-of-suc-le-suc}
 use native.Mathlib.Omega.{arith}
@@ -26,6 +26,10 @@ accepted-first (Answer.Refused r) b e = e
 pub accepted-second : (a b : Answer) → andThen a b ≡ Answer.Accepted → b ≡ Answer.Accepted
 accepted-second Answer.Accepted b e = e
 accepted-second (Answer.Refused r) b e = not-accepted r e
+
+-- where the first is refused, so are both
+pub refused-first : {a : Answer} {r : Refusal} (b : Answer) → a ≡ Answer.Refused r → andThen a b ≡ Answer.Refused r
+refused-first b e = ap (λ (a : Answer). andThen a b) e
 
 -- without a first fault there is none
 pub none-at-fault : (n : ℕ) (f : ℕ → Answer) → firstFault n f ≡ Answer.Accepted → (i : ℕ) → i < n → f i ≡ Answer.Accepted

@@ -16,7 +16,7 @@ use Rattle.bits.specs.Reading.{Got, got, refused}
 use Rattle.table.specs.declared.Table.{Table}
 use Rattle.table.specs.Limits.{limits}
 use Rattle.table.specs.Tables.{Shaped, labelsBefore}
-use Rattle.table.specs.Sound.{Within}
+use Rattle.table.specs.Faults.{tableFault}
 use Rattle.script.specs.Labels.{labels}
 use Rattle.script.specs.Reader.{packedTable, wholeScript, scriptOf, blockOf}
 use Rattle.script.specs.Writer.{tableParts, scriptBytes, blockFault, writerFault}
@@ -75,9 +75,9 @@ block-after s t end e r =
 pub read-shaped : (s : List ℕ) (t : Table) (end : ℕ) → scriptOf s ≡ got t end → Shaped t
 read-shaped s t end e = script-read s .told t end e .table .shaped
 
--- and is within its limits
-pub read-within : (s : List ℕ) (t : Table) (end : ℕ) → scriptOf s ≡ got t end → Within t
-read-within s t end e = script-read s .told t end e .table .within
+-- and it is sound
+pub read-sound : (s : List ℕ) (t : Table) (end : ℕ) → scriptOf s ≡ got t end → tableFault t ≡ Answer.Accepted
+read-sound s t end e = script-read s .told t end e .table .sound
 
 -- "Script to table to script gives the same bytes"
 pub script-again : (s : List ℕ) → Bytes s → (t : Table) (end : ℕ) → scriptOf s ≡ got t end → scriptBytes t (blockOf s) ≡ s

@@ -10,7 +10,7 @@ use Rattle.refusals.specs.declared.Answer.{Answer}
 use Rattle.bits.specs.declared.Field.{Field}
 use Rattle.bits.specs.Bits.{fieldAt, theBits}
 use Rattle.bits.specs.Twos.{theTwos}
-use Rattle.bits.specs.Reading.{got, refused}
+use Rattle.bits.specs.Reading.{got, refused, stops}
 use Rattle.table.specs.declared.Table.{Table}
 use Rattle.table.specs.declared.Entry.the-variants.{ImportedCondition, Not, Start, Alarm}
 use Rattle.table.specs.Limits.{limits}
@@ -23,10 +23,15 @@ pub length-first : (s : List ℕ) → ltb (limits .script) (length s) ≡ true �
 unfolding scriptOf
 length-first s long = rw long
 
+-- a refusal by the header is one of the whole script
+header-first : (s : List ℕ) (r : Refusal) → header s 0 ≡ refused r → wholeScript s 0 ≡ refused r
+unfolding wholeScript packedTable
+header-first s r e = rw e
+
 -- the format number is judged before anything after it is taken
 pub format-first : (s : List ℕ) (f : ℕ) → fieldAt s 0 8 ≡ Field.There f → eqb f 1 ≡ false → wholeScript s 0 ≡ refused Refusal.Format
-unfolding wholeScript packedTable header
-format-first s f there other = rw (there, other)
+unfolding header
+format-first s f there other = header-first s Refusal.Format (rw there (stops (eqb f 1) Refusal.Format f 8 _ other))
 
 -- the writer looks at the table before the block, and at the block before the room
 pub table-first : (t : Table) (block : List ℕ) (room : ℕ) (r : Refusal) → tableFault t ≡ Answer.Refused r → writerFault t block room ≡ Answer.Refused r

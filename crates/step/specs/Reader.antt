@@ -1,10 +1,9 @@
 -- A step read from front to back: of a table it looks at the imports alone, and of what came before at the last time.
 use mathlib.Core.Bool.{Bool, true, false, cond}
 use mathlib.Core.List.{List, [], _∷_, _++_}
-use mathlib.Core.Path.{_≡_, refl, sym}
+use mathlib.Core.Path.{_≡_}
 use Prim.Native.Nat.{ℕ, zero, suc}
 use lib.Dec.{leb, ltb, eqb}
-use Rattle.replies.specs.Plain.{never}
 use Rattle.values.specs.declared.Truth.{Truth}
 use Rattle.values.specs.declared.Number.{Number}
 use Rattle.refusals.specs.declared.Refusal.{Refusal}
@@ -13,7 +12,7 @@ use Rattle.refusals.specs.Numbering.{unless, andThen}
 use Rattle.bits.specs.declared.Field.{Field}
 use Rattle.bits.specs.Bits.{fieldAt}
 use Rattle.bits.specs.Twos.{signed}
-use Rattle.bits.specs.Reading.{Got, refused, onward, judged, Reading, give, _>>=_, field, whatever, padding, ended}
+use Rattle.bits.specs.Reading.{refused, judged, Reading, give, _>>=_, field, whatever, padding, ended, stops}
 use Rattle.table.specs.declared.Table.{Table}
 use Rattle.table.specs.Tables.{isEvent}
 use Rattle.step.specs.declared.Told.{Told}
@@ -74,11 +73,6 @@ theStep = tt
 pub import-before-order : (t : Table) (least i : ℕ) → ltb i (t .q) ≡ false → importFault t least i ≡ Answer.Refused Refusal.StepImport
 unfolding importFault
 import-before-order t least i none = rw none
-
--- a number that is refused stops all that follows
-stops : {B : Type 0} (b : Bool) (r : Refusal) (v next : ℕ) (f : ℕ → ℕ → Got B) → b ≡ false → onward (judged (unless b r) v next) f ≡ refused r
-stops false r v next f e = refl
-stops true r v next f e = never (sym e)
 
 -- 22 is judged as soon as the 47 bits of time are there, whatever follows
 pub time-first : (t : Table) (earliest time : ℕ) (s : List ℕ) → fieldAt s 0 47 ≡ Field.There time → leb earliest time ≡ false

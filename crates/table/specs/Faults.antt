@@ -9,6 +9,7 @@ use Rattle.values.specs.Numbers.{inRange}
 use Rattle.refusals.specs.declared.Refusal.{Refusal}
 use Rattle.refusals.specs.declared.Answer.{Answer}
 use Rattle.refusals.specs.Numbering.{unless, andThen, firstFault}
+use Rattle.refusals.specs.Accepting.{refused-first}
 use Rattle.table.specs.declared.Sort.{Sort}
 use Rattle.table.specs.declared.Table.{Table}
 use Rattle.table.specs.Limits.{limits}
@@ -73,4 +74,4 @@ seven-before-eight-import t k s i none = rw none
 -- 4 is judged wholly first
 pub four-first : (t : Table) (r : Refusal) → limitsFault t ≡ Answer.Refused r → tableFault t ≡ Answer.Refused r
 unfolding tableFault
-four-first t r bad = rw bad
+four-first t r bad = refused-first {a = limitsFault t} _ bad
