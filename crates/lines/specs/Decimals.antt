@@ -1,11 +1,12 @@
 -- Laws of decimal digits: the last digit is the remainder, the others are those of the quotient.
 use mathlib.Core.List.{List, [], _∷_, _++_}
 use mathlib.Core.Path.{_≡_, refl, sym, ap, subst}
-use Prim.Native.Nat.{ℕ, zero, suc, _+_, _/_, _%_, _<_, _≤_}
+use Prim.Native.Nat.{ℕ, zero, suc, _+_, _/_, _%_, _^_, _<_, _≤_}
 use native.Mathlib.Decide.{decLt}
-use native.Mathlib.Nat.{not-suc-le-zero}
+use native.Mathlib.Nat.{not-suc-le-zero, pow-suc}
 use native.Mathlib.Omega.{arith}
 use borrow.Author.Tests.{lt-ltb, le-ltb}
+use lib.ListN.{length, length-append}
 use Rattle.lines.specs.Text.{digitsTo, decimal}
 use Rattle.lines.specs.Laying.{Lays, lays-then}
 
@@ -40,3 +41,14 @@ pub lays-digits : {dst mid after : List ℕ} {at place next : ℕ} (n : ℕ) →
     → Lays mid place ((48 + n % 10) ∷ []) after next → Lays dst at (decimal n) after next
 lays-digits {dst} {after = after} {at} {next = next} n large some last =
     subst (λ (x : List ℕ). Lays dst at x after next) (sym (decimal-more n large)) (lays-then some last)
+
+-- a number below a power of ten has no more digits than the power says
+pub decimal-length : (d n : ℕ) → n < 10 ^ suc d → length (decimal n) ≤ suc d
+decimal-length zero n small = rw (decimal-one n small) (omega arith)
+decimal-length (suc d) n small =
+    elim (decLt n 10) [
+      | yes one ↦ rw (decimal-one n one) (omega arith)
+      | no more ↦
+          let some = decimal-length d (n / 10) (omega (arith, rw (pow-suc 10 (suc d)) at small)) in
+          rw (decimal-more n (omega arith), length-append) (omega arith)
+    ]

@@ -76,6 +76,10 @@ lays-then {dst} {at = at} {a = a} {b = b} one two =
           ∙ sym (end-join (length dst) at a b);
     }
 
+-- a text after a byte
+pub lays-first : {dst mid after : List ℕ} {at next end b : ℕ} {text : List ℕ} → Lays dst at (b ∷ []) mid next → Lays mid next text after end → Lays dst at (b ∷ text) after end
+lays-first one rest = lays-then one rest
+
 -- one byte more of a text
 pub lays-next : {dst mid after : List ℕ} {at next end : ℕ} (text : List ℕ) (i : ℕ) → Lays dst at (take i text) mid next → Lays mid next (getD text i 0 ∷ []) after end
     → i < length text → Lays dst at (take (i + 1) text) after end
@@ -99,3 +103,11 @@ end-within room at (b ∷ text) within =
       | yes l ↦ rw (lt-ltb at room l) (end-within room (suc at) text (omega arith))
       | no h ↦ rw (le-ltb at room (omega arith)) (end-within room at text within)
     ]
+
+-- a text laid from the first byte on, and its end within the room
+pub lays-within : {dst after text : List ℕ} {next : ℕ} → Lays dst 0 text after next → Lays dst 0 text after next × (next ≤ length dst)
+lays-within {dst} {text = text} lays = (lays, subst (λ (n : ℕ). n ≤ length dst) (sym (lays .place)) (end-within (length dst) 0 text (omega arith)))
+
+-- two layings of one text into one destination come to the same place and leave the same bytes
+pub lays-same : {dst text one two : List ℕ} {at next end : ℕ} → Lays dst at text one next → Lays dst at text two end → (next ≡ end) × (one ≡ two)
+lays-same first second = (first .place ∙ sym (second .place), first .bytes ∙ sym (second .bytes))

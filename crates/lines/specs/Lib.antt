@@ -2,3 +2,5 @@
 pub mod Text
 pub mod Laying
 pub mod Decimals
+pub mod Spaced
+pub mod Whole

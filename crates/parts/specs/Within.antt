@@ -6,15 +6,17 @@ use Prim.Native.Nat.{ℕ, _+_, _-_, _*_, _/_, _≤_}
 use native.Mathlib.Nat.{add-comm}
 use native.Mathlib.Omega.{arith}
 use borrow.Author.Tests.{leb-true}
-use lib.Dec.{ltb}
+use lib.Dec.{leb, ltb}
 use lib.ListN.{length, take, drop, length-drop}
 use lib.Seq.{take-all}
 use Rattle.refusals.specs.declared.Refusal.{Refusal}
 use Rattle.refusals.specs.declared.Answer.{Answer}
 use Rattle.refusals.specs.Numbering.{unless}
+use Rattle.refusals.specs.Accepting.{unless-accepted}
 use Rattle.bits.specs.Bits.{wholly}
 use Rattle.bits.specs.Reading.{Got, got, refused, judged}
 use Rattle.table.specs.declared.Table.{Table}
+use Rattle.table.specs.Limits.{limits}
 use Rattle.table.specs.Kinds.{labelled}
 use Rattle.table.specs.Tables.{entryAt, labelsBefore}
 use Rattle.script.specs.declared.Span.{Span}
@@ -35,37 +37,59 @@ gives-judged Answer.Accepted a next p = gives-value p
 gives-judged (Answer.Refused r) a next p = gives-refused
 
 -- a text that is wholly there
-text-there : (s : List ℕ) (size at : ℕ) (whole : Bool) (answer : Answer) → (whole ≡ true → at + 8 * size ≤ 8 * length s)
-    → Gives (cond whole (judged answer (record { from = at / 8; size = size }) (at + 8 * size)) (refused Refusal.Cut)) (λ span next. Inside s span)
-text-there s size at true answer ends = gives-judged answer _ _ (omega (arith, ends refl))
-text-there s size at false answer ends = gives-refused
+text-there : (size at : ℕ) (whole : Bool) (answer : Answer) {P : Span → Type 0} → (whole ≡ true → P (record { from = at / 8; size = size }))
+    → Gives (cond whole (judged answer (record { from = at / 8; size = size }) (at + 8 * size)) (refused Refusal.Cut)) (λ span next. P span)
+text-there size at true answer there = gives-judged answer _ _ (there refl)
+text-there size at false answer there = gives-refused
 
--- "a length byte 0 to 32, then that many bytes"
+-- "a length byte 0 to 32, then that many bytes": the bytes are there
 label-inside : (s : List ℕ) (at : ℕ) → Gives (label s at) (λ span next. Inside s span)
 unfolding label text
-label-inside s at = gives-field s at 8 _ _ _ (λ size there good. text-there s size (at + 8) (wholly s (at + 8) (8 * size)) (unless (printable (take size (drop ((at + 8) / 8) s))) Refusal.Label) (λ whole. leb-true (at + 8 + 8 * size) (8 * length s) whole))
+label-inside s at =
+    gives-field s at 8 _ _ _
+    (λ size there good.
+    text-there size (at + 8) (wholly s (at + 8) (8 * size)) (unless (printable (take size (drop ((at + 8) / 8) s))) Refusal.Label)
+    (λ whole. omega (arith, leb-true (at + 8 + 8 * size) (8 * length s) whole)))
 
--- the label of an entry
-span-inside : (s : List ℕ) (k : ℕ) → Gives (labelSpan k s 0) (λ span next. Inside s span)
-unfolding labelSpan
-span-inside s k = gives-onward {m = packedTable s 0} (λ t at read. gives-onward {m = labels (labelsBefore t k) s at} (λ count next others. label-inside s next))
+-- and there are at most 32 of them
+label-short : (s : List ℕ) (at : ℕ) → Gives (label s at) (λ span next. span .size ≤ limits .label)
+unfolding label text
+label-short s at =
+    gives-field s at 8 _ _ _
+    (λ size there good.
+    text-there size (at + 8) (wholly s (at + 8) (8 * size)) (unless (printable (take size (drop ((at + 8) / 8) s))) Refusal.Label)
+    (λ whole. leb-true size (limits .label) (unless-accepted (leb size (limits .label)) Refusal.Label good)))
 
-reply-inside : (s : List ℕ) (m : Got Span) → Gives m (λ span next. Inside s span) → Inside s (labelReply m .span)
-reply-inside s (got span next) inside = inside .told span next refl
-reply-inside s (refused r) inside = omega arith
+-- what holds of the empty part and of every label that is read
+module _ (s : List ℕ) (P : Span → Type 0) (empty : P (record { from = 0; size = 0 })) (each : (at : ℕ) → Gives (label s at) (λ span next. P span)) where
+  span-has : (k : ℕ) → Gives (labelSpan k s 0) (λ span next. P span)
+  unfolding labelSpan
+  span-has k = gives-onward {m = packedTable s 0} (λ t at read. gives-onward {m = labels (labelsBefore t k) s at} (λ count next others. each next))
 
-shown-inside : (s : List ℕ) (named : Bool) (l : Label) → Inside s (l .span) → Inside s (cond named l (noLabel Refusal.NoEntry) .span)
-shown-inside s true l inside = inside
-shown-inside s false l inside = omega arith
+  reply-has : (m : Got Span) → Gives m (λ span next. P span) → P (labelReply m .span)
+  reply-has (got span next) has = has .told span next refl
+  reply-has (refused r) has = empty
 
-in-inside : (s : List ℕ) (k : ℕ) (m : Got Table) → Inside s (labelIn s k m .span)
-in-inside s k (got t end) = shown-inside s (ltb k (t .n) && labelled (entryAt t k)) (labelReply (labelSpan k s 0)) (reply-inside s (labelSpan k s 0) (span-inside s k))
-in-inside s k (refused r) = omega arith
+  shown-has : (named : Bool) (l : Label) → P (l .span) → P (cond named l (noLabel Refusal.NoEntry) .span)
+  shown-has true l has = has
+  shown-has false l has = empty
 
--- stands within the bytes
+  in-has : (k : ℕ) (m : Got Table) → P (labelIn s k m .span)
+  in-has k (got t end) = shown-has (ltb k (t .n) && labelled (entryAt t k)) (labelReply (labelSpan k s 0)) (reply-has (labelSpan k s 0) (span-has k))
+  in-has k (refused r) = empty
+
+  -- holds of the label of any entry
+  label-has : (k : ℕ) → P (labelOf s k .span)
+  unfolding labelOf
+  label-has k = in-has k (scriptOf s)
+
+-- the label of an entry stands within the bytes
 pub label-of-inside : (s : List ℕ) (k : ℕ) → Inside s (labelOf s k .span)
-unfolding labelOf
-label-of-inside s k = in-inside s k (scriptOf s)
+label-of-inside s k = label-has s (Inside s) (omega arith) (label-inside s) k
+
+-- and is at most 32 bytes long
+pub label-of-short : (s : List ℕ) (k : ℕ) → labelOf s k .span .size ≤ limits .label
+label-of-short s k = label-has s (λ span. span .size ≤ limits .label) (omega arith) (label-short s) k
 
 -- and so does the block
 after-inside : (s : List ℕ) (m : Got Table) → packedTable s 0 ≡ m → Inside s (spanAfter s m)

@@ -23,14 +23,13 @@ abbrev below : ℕ → In 1 put-decimal-kinds.ps
 below t = and 1 put-decimal-kinds.ps (falls 1 put-decimal-kinds.ps _<_ μ-put-decimal t) put-decimal.Pre
 
 returns : (t : ℕ) → lts.Need-returns (put-digit.Asked, put-digit.Learnt, below t, put-decimal.Post) (given t) put-decimal.Post
-returns t c = lays-digit (c .before .before .before .before .before .before .args .n) (c .before .before .before .before .if1 .taken) (c .before .before .put-digit .ensures)
+returns t c = search (lays-digit, arith)
 
 smaller : (t : ℕ) → lts.Need-put-decimal-requires (put-digit.Asked, put-digit.Learnt, below t, put-decimal.Post) (given t) put-decimal.Post
 smaller t c κs = (omega (arith, c .before .before .before .pre .0), tt)
 
 returns-2 : (t : ℕ) → lts.Need-returns-2 (put-digit.Asked, put-digit.Learnt, below t, put-decimal.Post) (given t) put-decimal.Post
-returns-2 t c =
-    lays-digits (c .before .before .before .before .before .before .before .before .before .before .args .n) (omega arith) (c .before .before .before .before .before .before .put-decimal .ensures) (c .before .before .put-digit2 .ensures)
+returns-2 t c = search (lays-digits, arith)
 
 pub +put-decimal-spec : {M : Type 1} → statement M
 +put-decimal-spec = close μ-put-decimal λ t. lts.spec (put-digit.Asked, put-digit.Learnt, below t, put-decimal.Post) (given t) put-decimal.Post

@@ -17,9 +17,7 @@ loop-holds : tie.Need-loop-holds Inv-loop μ-loop
 loop-holds c = (omega arith, lays-none _ _)
 
 loop-again : tie.Need-loop-again Inv-loop μ-loop
-loop-again c =
-    let start = c .before .before .before .before .before .before in
-    (omega arith, lays-next (start .before .before .before .args .text .now) (start .loop .i) (start .loop .inv .1) (c .before .before .put-byte .ensures) (omega arith))
+loop-again c = (omega arith, search lays-next)
 
 same-length : tie.Need-same-length Inv-loop μ-loop
 same-length c = lays-length (c .before .loop .inv .1)

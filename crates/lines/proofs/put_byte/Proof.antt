@@ -12,5 +12,5 @@ put-byte-spec =
     (λ c. search needs)
     (λ c. search needs)
     (λ c. search needs)
-    (λ c. lays-in (omega arith))
-    (λ c. lays-out (omega arith)))
+    (λ c. search (lays-in, arith))
+    (λ c. search (lays-out, arith)))

@@ -1,0 +1,62 @@
+-- What is shown of a script that was read, and of one that was refused.
+use mathlib.Core.List.{List, [], _∷_, _++_}
+use mathlib.Core.Path.{_≡_, refl, sym, _∙_, ap, subst}
+use Prim.Native.Nat.{ℕ, _≤_}
+use native.Mathlib.Omega.{arith}
+use Rattle.refusals.specs.declared.Refusal.{Refusal}
+use Rattle.refusals.specs.declared.Answer.{Answer}
+use Rattle.refusals.specs.Numbering.{numberOf}
+use Rattle.bits.specs.Reading.{Got, got, refused}
+use Rattle.table.specs.declared.Table.{Table}
+use Rattle.table.specs.Limits.{limits}
+use Rattle.table.specs.Sound.{sound-table}
+use Rattle.script.specs.declared.Script.{Script}
+use Rattle.script.specs.Reader.{scriptOf, scriptReply, readScript}
+use Rattle.roundtrip.specs.ReadAgain.{read-sound}
+use Rattle.lines.specs.Text.{decimal, scriptWord, refusedWord, line, scriptLine, scriptRefusedLine}
+use Rattle.lines.specs.Laying.{Lays, lays-then}
+use Rattle.inspection.specs.Inspected.{rulesTo, linesOf, inspected}
+
+-- accepted
+accepted-lines : (s : List ℕ) (m : Got Table) → scriptReply m .answer ≡ Answer.Accepted
+    → linesOf s m ≡ scriptLine (scriptReply m .table .n) ++ rulesTo s (scriptReply m .table) (scriptReply m .table .n)
+accepted-lines s (got t end) good = refl
+accepted-lines s (refused r) good = absurd (let z : _≡_ {A = ℕ} 0 1 = cc good in omega arith)
+
+-- refused
+refused-lines : (s : List ℕ) (m : Got Table) (r : Refusal) → scriptReply m .answer ≡ Answer.Refused r → linesOf s m ≡ scriptRefusedLine r
+refused-lines s (got t end) r bad = absurd (let z : _≡_ {A = ℕ} 0 1 = cc bad in omega arith)
+refused-lines s (refused f) r bad = ap scriptRefusedLine (cc bad)
+
+-- a script that is read has no more entries than there are slots
+pub script-few : (s : List ℕ) (t : Table) (end : ℕ) → scriptOf s ≡ got t end → t .n ≤ limits .entries
+script-few s t end e = sound-table t (read-sound s t end e) .within .entries
+
+-- nor has the empty table
+reply-few : (m : Got Table) → ((t : Table) (end : ℕ) → m ≡ got t end → t .n ≤ limits .entries) → scriptReply m .table .n ≤ limits .entries
+reply-few (got t end) few = few t end refl
+reply-few (refused r) few = omega arith
+
+pub read-few : {read : Script} (s : List ℕ) → read ≡ readScript s → read .table .n ≤ limits .entries
+unfolding readScript
+read-few s is = subst (λ (x : Script). x .table .n ≤ limits .entries) (sym is) (reply-few (scriptOf s) (script-few s))
+
+module _ {dst mid after : List ℕ} {at next : ℕ} {read : Script} (s : List ℕ) where
+  -- an accepted script's lines: the first one, and those of the rules
+  pub lays-accepted : read ≡ readScript s → read .answer ≡ Answer.Accepted → Lays dst 0 (scriptLine (read .table .n)) mid at
+      → Lays mid at (rulesTo s (read .table) (read .table .n)) after next → Lays dst 0 (inspected s) after next
+  unfolding readScript inspected
+  lays-accepted is good first rules =
+      subst (λ (text : List ℕ). Lays dst 0 text after next)
+      (ap (λ (x : Script). scriptLine (x .table .n) ++ rulesTo s (x .table) (x .table .n)) is
+      ∙ sym (accepted-lines s (scriptOf s) (ap (λ (x : Script). x .answer) (sym is) ∙ good)))
+      (lays-then first rules)
+
+-- a refused script's line
+pub lays-refused : {dst after : List ℕ} {next n : ℕ} {read : Script} {r : Refusal} (s : List ℕ) → read ≡ readScript s → read .answer ≡ Answer.Refused r → n ≡ numberOf r
+    → Lays dst 0 (line (scriptWord ∷ refusedWord ∷ decimal n ∷ [])) after next → Lays dst 0 (inspected s) after next
+unfolding readScript inspected scriptRefusedLine
+lays-refused {dst} {after} {next} {r = r} s is bad number laid =
+    subst (λ (text : List ℕ). Lays dst 0 text after next)
+    (ap (λ (m : ℕ). line (scriptWord ∷ refusedWord ∷ decimal m ∷ [])) number ∙ sym (refused-lines s (scriptOf s) r (ap (λ (x : Script). x .answer) (sym is) ∙ bad)))
+    laid
