@@ -18,8 +18,8 @@ fn lines_room() -> [u8; 98304]
 
 fn main() {
     let mut script = script_room();
-    let mut lines = lines_room();
     let n = io::read_full(0, &mut script);
-    let m = inspection::lines(&script[..n], &mut lines);
-    io::write_all(1, &lines[..m]);
+    let mut shown = lines_room();
+    let m = inspection::lines(&script[..n], &mut shown);
+    io::write_all(1, &shown[..m]);
 }
