@@ -40,9 +40,22 @@ MISTAKES = {
     "the writer's 12 before 1": ("        if len(data) > 4096:", "        if len(data) > len(destination):\n            raise Refused(12)\n        if len(data) > 4096:"),
     "the writer's 13 before 4": ("    if any(e != UNUSED", "    if any(x is not None and not LOW <= x <= HIGH for x in table.variables):\n"
                                  "        raise Refused(13)\n    if any(e != UNUSED"),
+    "reach gives 30 before 29": ("and whether the clock is.\"\"\"\n", "and whether the clock is.\"\"\"\n    if k >= table.n:\n        return 30, set(), set(), False\n"),
+    "a refused reach has marks": ("return 30, set(), set(), False", "return 30, {k}, set(), False"),
+    "a reach marks everything": ("    imports = {table.entries[j][1]", "    inside = set(range(table.n))\n    imports = {table.entries[j][1]"),
+    "a reach leaves out its own entry": ("return 0, inside, imports", "return 0, inside - {k}, imports"),
+    "a reach goes one step far": ("    while more != inside:\n        inside = more", "    for _ in range(2):\n        inside = more"),
+    "an update counts as a read": ("    if kind == 16:\n        found", "    if kind == 22:\n        operands = operands[1:]\n    if kind in (16, 22):\n        found"),
+    "a read leads to the updates of every variable": ("if e[0] == 22 and e[2] == operands[0]", "if e[0] == 22"),
     "reach follows earlier updates alone": ("if e[0] == 22 and e[2] == operands[0]", "if e[0] == 22 and e[2] == operands[0] and u < j"),
     "the time of an event is no clock": ("in (19, 21)", "in (19,)"),
     "the value of an event is no import": ("in (0, 9, 20)", "in (0, 9)"),
+    "inspect calls every rule an alarm": ('b"alarm" if table.entries[k][0] == 23 else b"property"', 'b"alarm"'),
+    "inspect drops the space of an empty label": ('b"%d %s %s\\n" %', '(b"%d %s %s\\n" if size else b"%d %s%s\\n") %'),
+    "inspect leaves a space where there are no imports": ('sorted(numbers))]) + b"\\n"', 'sorted(numbers))]) + (b"\\n" if numbers else b" \\n")'),
+    "inspect takes 10 before 9": ("in sorted(numbers)", "in sorted(numbers, key=str)"),
+    "inspect shows a label of another rule": ("for k, (start, size) in places.items():", "for k, (start, size) in zip(places, [*places.values()][::-1]):"),
+    "inspect cuts a long script": ('prints for the bytes of a script."""\n', 'prints for the bytes of a script."""\n    script = script[:4096]\n'),
 }
 
 

@@ -368,3 +368,19 @@ def replay(data):
         out += b"cut\n"
     refused = sum(number > 0 for number, _, _ in replies)
     return out + b"steps %d refused %d\n" % (len(replies) - refused, refused)
+
+
+def inspect(script):
+    """The bytes that the program `inspect` prints for the bytes of a script."""
+    try:
+        table, places = read_script(script)
+    except Refused as r:
+        return b"script refused %d\n" % r.args[0]
+    out = b"script %d\n" % table.n
+    for k, (start, size) in places.items():
+        _, entries, imports, clock = reach(table, k)
+        out += b"%d %s %s\n" % (k, b"alarm" if table.entries[k][0] == 23 else b"property", script[start:start + size])
+        for word, numbers in (b"entries", entries), (b"imports", imports):
+            out += b" ".join([b"%d" % k, word, *(b"%d" % x for x in sorted(numbers))]) + b"\n"
+        out += b"%d clock %s\n" % (k, b"yes" if clock else b"no")
+    return out

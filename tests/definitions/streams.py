@@ -1,4 +1,4 @@
-"""Seeded questions: streams that are valid, rich in updates or damaged, calls of the writer, labels, steps, reaches, and edges."""
+"""Seeded questions: streams that are valid, rich in updates or damaged, calls of the writer, labels, steps, reaches, scripts to inspect, and edges."""
 import random
 from model import F, HIGH, LOW, OPERANDS, T, U, Table, fields, labelled, packed, sort_of
 
@@ -19,10 +19,10 @@ def made(imports, variables, entries):
     return t
 
 
-def any_table(r, want, most):
-    """A sound table, with the wanted kind more often."""
-    imports = [r.random() < 0.6 for _ in range(r.choice([0, 1, 2, 3, 3, 4, 4]))]
-    variables = [r.choice([None, number(r)]) for _ in range(r.choice([0, 1, 1, 1, 2, 3]))]
+def any_table(r, want, most, imports=(0, 1, 2, 3, 3, 4, 4), variables=(0, 1, 1, 1, 2, 3)):
+    """A sound table, with the wanted kind more often, and as many imports and variables as one of the given numbers."""
+    imports = [r.random() < 0.6 for _ in range(r.choice(imports))]
+    variables = [r.choice([None, number(r)]) for _ in range(r.choice(variables))]
     pool = {"C": [], "E": [], "N": [], "c": [i for i, e in enumerate(imports) if not e],
             "e": [i for i, e in enumerate(imports) if e], "v": range(len(variables))}
     n = r.randint(1 if r.random() < 0.15 else most // 2, most)
@@ -259,6 +259,25 @@ def step_call(r, i):
     return faulty_table(r) if i % 9 == 8 else t, records
 
 
+def large(r):
+    """A sound table that may fill every slot."""
+    return any_table(r, r.choice([2, 9, 16, 16, 20, 21, 22, 22, 23]), 128, range(49), range(33))
+
+
+def damaged_script(r):
+    """The bytes of a script with some damage."""
+    data = damaged(r, "script-" + r.choice(SCRIPT_DAMAGES))
+    return data[2:2 + int.from_bytes(data[:2], "big")]
+
+
+def inspect_call(r, i):
+    """The bytes of a script; each fourth is damaged."""
+    if i % 4 == 3:
+        return damaged_script(r)
+    t, block, _ = rich(r) if i % 4 == 1 else valid(r, i % 25, 12)
+    return script_of(t, block)
+
+
 def reach_call(r, i):
     """A table and an entry."""
     t = faulty_table(r) if i % 4 == 0 else rich(r)[0] if i % 4 == 1 else any_table(r, 16, 10)
@@ -399,6 +418,41 @@ def writer_edges():
         yield full, (b"\x20" + b"A" * 32) * 127, room
 
 
+def chained(x, more):
+    """Variables 0 to x in a chain, each updated from a read of the next; the updates stand in the order of `more`, and the last one's number is a value."""
+    entries = [(16, 0), (9, 0)]
+    for y in more:
+        entries += [(16, y + 1) if y < x else (20, 1), (22, 1, y, len(entries))]
+    return made([True, True], [None] * (x + 1), entries)
+
+
+def reach_edges():
+    """Tables and entries: updates before and after a read, chains of variables, the clock, entries that are not there."""
+    mixed = made([True, False, True], [0], [(16, 0), (9, 2), (19,), (22, 1, 0, 2), (20, 0), (21, 1), (0, 1), (10, 6), (22, 7, 0, 4), (7, 0, 5), (24, 9)])
+    for k in (*range(mixed.n + 1), 127, 128, 65535):
+        yield mixed, k
+    for more in range(6), range(5, -1, -1):
+        yield chained(5, more), 0
+    counting = made([True, True], [0, 0], [(9, 0), (16, 0), (15, 1), (17, 1, 2), (22, 0, 0, 3), (9, 1), (22, 5, 1, 1), (21, 5), (22, 0, 0, 7)])
+    for k in range(counting.n):
+        yield counting, k
+    for t in made([], [], [(16, 0)]), made([], [None], [(16, 0), (15, HIGH + 1)]), made([True], [], [(0, 0)]), Table(), Table(129):
+        for k in (0, 5, 128):
+            yield t, k
+
+
+def inspect_edges():
+    """Scripts: the document's, the gate rule's, some cut short or too long, empty labels, rules without imports, a later update."""
+    c, e = False, True
+    yield bytes.fromhex("01 04 04 00 00 01 80 50 1B 82 04 4C 45 41 50")
+    gate = script_of(made([e, e, c], [None], [(9, 1), (21, 0), (22, 0, 0, 1), (0, 2), (3, 3), (14, 0, 4), (9, 0), (10, 3), (13, 6, 7), (2, 5, 8), (16, 0),
+                                              (15, 30000), (17, 10, 11), (19,), (7, 13, 12), (6, 9, 14), (24, 15)]), b"\4GATE")
+    yield from [gate, gate[:-1], gate + b"\0", b"", *(gate + bytes(size - len(gate)) for size in (4096, 4097))]
+    yield script_of(made([], [], [(15, 1), (8, 0, 0), (24, 1), (19,), (8, 3, 0), (24, 4)]), b"\0\0")
+    yield script_of(made([e, e], [5], [(16, 0), (20, 0), (7, 0, 1), (10, 2), (23, 3), (9, 1), (20, 1), (22, 5, 0, 6)]), b"\1 ")
+    yield script_of(made([e] * 12, [], [*((9, i) for i in range(12)), (13, 2, 10), (13, 1, 12), (23, 13), (23, 11)]), b"\2AB\1C")
+
+
 def edges():
     """Every hand-made question."""
     for i, (script, records) in enumerate(stream_edges()):
@@ -407,9 +461,10 @@ def edges():
         yield f"input edge {i}", "replay", (data,)
     for i, (t, block, room) in enumerate(writer_edges()):
         yield f"writer edge {i}", "write", (t, block, bytes([170]) * room)
-    t = made([True, False, True], [0], [(16, 0), (9, 2), (19,), (22, 1, 0, 2), (20, 0), (21, 1), (0, 1), (10, 6), (22, 7, 0, 4), (7, 0, 5), (24, 9)])
-    for k in range(t.n + 1):
-        yield f"reach edge {k}", "reach", (t, k)
+    for i, (t, k) in enumerate(reach_edges()):
+        yield f"reach edge {i}", "reach", (t, k)
+    for i, script in enumerate(inspect_edges()):
+        yield f"inspect edge {i}", "inspect", (script,)
 
 
 def questions(seed, count):
@@ -429,3 +484,4 @@ def questions(seed, count):
             yield f"label {i}", "label", label_call(r)
             yield f"steps {i}", "steps", step_call(r, i // 4)
             yield f"reach {i}", "reach", reach_call(r, i // 4)
+            yield f"inspect {i}", "inspect", (inspect_call(r, i // 4),)
