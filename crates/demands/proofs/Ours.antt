@@ -10,7 +10,7 @@ use Rattle.parts.proofs.block.Reads as block
 use Rattle.writer.proofs.write.Reads as write
 use Rattle.monitor.proofs.start.Reads as start
 use Rattle.monitor.proofs.step.Reads as step
-use Rattle.reach.proofs.of_entry.Reads as of-entry
+use Rattle.reacher.proofs.of_entry.Reads as of-entry
 
 -- what is read of any bytes
 pub reads : Answers read.Post (λ κs r s. r) (λ κs a. ours .read (now (a .0)))

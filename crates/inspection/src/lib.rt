@@ -42,7 +42,7 @@ fn entry_lines(s: &[u8], t: Table, k: usize, out: &mut [u8], at: usize) -> usize
     let slot = t.entries[k];
     let e = slot.entry;
     if labels::labelled(e) {
-        return rule_lines(s, k, e, reach::of_entry(t, k), out, at);
+        return rule_lines(s, k, e, reacher::of_entry(t, k), out, at);
     }
     at
 }

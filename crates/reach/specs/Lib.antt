@@ -5,11 +5,3 @@ pub mod Counting
 pub mod Spreading
 pub mod Spread
 pub mod Shown
-pub mod Named
-pub mod Leading
-pub mod Adding
-pub mod Linking
-pub mod Along
-pub mod Following
-pub mod Touching
-pub mod Replying

@@ -25,7 +25,7 @@ fn asked(script: &[u8], rest: &[u8]) {
     let table = read.table;
     let edited = editing::edited(table, part(rest, 8, rest.len()));
     let entry = number(rest, 0) as usize;
-    showing::say_reach(reach::of_entry(edited, entry));
+    showing::say_reach(reacher::of_entry(edited, entry));
 }
 
 // A case: its name, a script, and what is asked of it.
