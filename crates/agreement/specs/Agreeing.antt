@@ -1,6 +1,6 @@
 -- "Two streams that agree on what a rule reaches": step by step, on the reports of every import it reaches, and on the times if it reaches the clock.
 use mathlib.Core.Bool.{Bool, false}
-use mathlib.Core.List.{List, [], _∷_, map}
+use mathlib.Core.List.{List, [], _∷_}
 use mathlib.Core.Path.{_≡_}
 use Prim.Native.Nat.{ℕ}
 use lib.Dec.{T}
@@ -8,7 +8,7 @@ use lib.ListN.{getD}
 use Rattle.values.specs.declared.Outcome.{Outcome}
 use Rattle.table.specs.declared.Table.{Table}
 use Rattle.step.specs.Steps.{Step, toldBy}
-use Rattle.history.specs.History.{History, Moment, rowAt, momentsBy, judge}
+use Rattle.history.specs.History.{History, resultAt}
 use Rattle.reach.specs.declared.Reach.{Reach}
 use Rattle.reach.specs.Reaching.{Entries, reachesImport, reachesClock}
 
@@ -39,4 +39,5 @@ Agree r (a ∷ g) (b ∷ h) = StepsAgree r a b × Agree r g h
 
 -- what the logic gives a rule at every accepted step, the latest first
 unfoldable pub resultsOfRule : Table → ℕ → History → List Outcome
-resultsOfRule t k h = map (λ (m : Moment). rowAt (m .row) k) (momentsBy judge t h)
+resultsOfRule t k [] = []
+resultsOfRule t k (s ∷ h) = resultAt t (s ∷ h) k ∷ resultsOfRule t k h

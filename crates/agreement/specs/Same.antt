@@ -8,6 +8,7 @@ use native.Mathlib.Omega.{arith}
 use lib.Dec.{T}
 use lib.IntN.{pos}
 use Rattle.values.specs.Truths.{isTrue, isFalse}
+use Rattle.values.specs.declared.Outcome.{Outcome}
 use Rattle.refusals.specs.declared.Answer.{Answer}
 use Rattle.table.specs.declared.Table.{Table}
 use Rattle.table.specs.Kinds.{Change, operandsOf, updateOf}
@@ -17,7 +18,7 @@ use Rattle.table.specs.Faults.{tableFault}
 use Rattle.table.specs.Sound.{Sound, sound-table}
 use Rattle.step.specs.Steps.{Step}
 use Rattle.meaning.specs.Places.{placesOf}
-use Rattle.history.specs.History.{History, Moment, Row, rowAt, stepsOf, givensAt, judge, rowTo, momentsBy}
+use Rattle.history.specs.History.{History, Moment, Row, rowAt, stepsOf, givensAt, judge, rowTo, momentsBy, resultBy, resultAt}
 use Rattle.history.specs.Rows.{row-holds}
 use Rattle.reach.specs.declared.Reach.{Reach}
 use Rattle.reach.specs.Reaching.{Entries, Closed, Shows, isOperand, isRead, namesImport, readsClock, leadsTo, reachesImport, reachesClock, markedIn, leads-to-operands, reads-every-update}
@@ -107,11 +108,17 @@ said-same : {r : Touching} {S : Entries} {n : ℕ} {ms₁ ms₂ : List Moment} �
 said-same nothing k among = refl
 said-same (one-more steps rows past) k among = λ i. rows .at k among i ∷ said-same past k among i
 
+-- the results of a rule stand in the rows of the history's moments
+rule-rows : (t : Table) (k : ℕ) (h : History) → resultsOfRule t k h ≡ map (λ (m : Moment). rowAt (m .row) k) (momentsBy judge t h)
+unfolding resultsOfRule resultAt resultBy momentsBy
+rule-rows t k [] = refl
+rule-rows t k (s ∷ h) = ap (λ (earlier : List Outcome). resultAt t (s ∷ h) k ∷ earlier) (rule-rows t k h)
+
 -- "Two streams that agree on what a rule reaches", for any closed set that holds the rule
 pub same-results : (t : Table) → tableFault t ≡ Answer.Accepted → (S : Entries) → Closed (leadsTo t) (t .n) S
     → (g h : History) → Agree (touchingBy t S) g h → (k : ℕ) → k < t .n → T (S k) → resultsOfRule t k g ≡ resultsOfRule t k h
-unfolding resultsOfRule
-same-results t good S closed g h agree k below is = said-same (pasts-same t (sound-table t good) S closed g h agree) k (below, is)
+same-results t good S closed g h agree k below is =
+    rule-rows t k g ∙ said-same (pasts-same t (sound-table t good) S closed g h agree) k (below, is) ∙ sym (rule-rows t k h)
 
 -- and so for what a reach shows
 pub shown-same : (t : Table) → tableFault t ≡ Answer.Accepted → (k : ℕ) → k < t .n → (r : Reach) → Shows t k r

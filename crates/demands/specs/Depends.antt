@@ -11,7 +11,6 @@ use Rattle.table.specs.Tables.{Shaped}
 use Rattle.script.specs.Reader.{scriptOf}
 use Rattle.roundtrip.specs.ReadAgain.{read-shaped, read-sound}
 use Rattle.step.specs.Steps.{Step}
-use Rattle.history.specs.History.{momentsBy, resultBy, resultAt}
 use Rattle.history.specs.Offered.{grown, historyOf}
 use Rattle.monitor.specs.Stepping.{resultIn}
 use Rattle.reach.specs.Reaching.{reachFault, ReachReply, Shows}
@@ -26,7 +25,7 @@ use Rattle.demands.specs.Reaches.{Reacher, ShowsTheLeast, givenIf, given
 -- a machine that knows the history gives a rule, at every step that it accepts, what the logic says
 pub given-logic : (machine : Machine) (t : Table) → SaysTheLogic machine t → AnswersAsDefined machine t → (k : ℕ) (offered : List (List ℕ))
     → givenTo machine t k offered ≡ resultsOfRule t k (historyOf t offered)
-unfolding givenTo resultsOfRule momentsBy resultAt resultBy historyOf
+unfolding givenTo resultsOfRule historyOf
 given-logic machine t says answers k [] = refl
 given-logic machine t says answers k (bytes ∷ before) = by (heard t before bytes) refl (given-logic machine t says answers k before)
   where
