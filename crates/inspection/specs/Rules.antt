@@ -1,6 +1,6 @@
 -- The lines of a rule, laid one after another, and those of the rules.
 use mathlib.Core.Bool.{Bool, true, false, cond}
-use mathlib.Core.List.{List, [], _∷_, map}
+use mathlib.Core.List.{List, [], _∷_, _++_, map, append-assoc}
 use mathlib.Core.Path.{_≡_, sym, _∙_, ap, subst}
 use Prim.Native.Nat.{ℕ, _+_}
 use native.Mathlib.Numerals.{add-one}
@@ -33,15 +33,20 @@ module _ {dst after : List ℕ} {at next : ℕ} {apart : Apart} (k : ℕ) (e : E
   unfolding apartOf
   lays-property is kind lays = rw (ne-eqb _ _ (λ other. kind (ap (λ (a : Apart). a .kind) is ∙ other))) lays
 
-module _ {dst named entered imported after : List ℕ} {at a b c end : ℕ} {label : List ℕ} (s : List ℕ) (k : ℕ) (e : Entry) (r : Reach) where
-  -- all four lines
-  pub lays-rule : label ≡ textOf s (labelOf s k) → Lays dst at (line (decimal k ∷ ruleWord e ∷ label ∷ [])) named a
-      → Lays named a (line (decimal k ∷ entriesWord ∷ map decimal (markedFrom 0 (r .entries)))) entered b
-      → Lays entered b (line (decimal k ∷ importsWord ∷ map decimal (markedFrom 0 (r .imports)))) imported c
-      → Lays imported c (line (decimal k ∷ clockWord ∷ yesOrNo (r .clock) ∷ [])) after end → Lays dst at (ruleLines s k e r) after end
-  unfolding ruleLines
-  lays-rule is name entries imports clock =
-      lays-then (lays-then (lays-then (subst (λ (l : List ℕ). Lays dst at (line (decimal k ∷ ruleWord e ∷ l ∷ [])) named a) is name) entries) imports) clock
+-- the three lines of what a rule reaches
+abbrev pub reachLines : ℕ → Reach → List ℕ
+reachLines k r =
+    line (decimal k ∷ entriesWord ∷ map decimal (markedFrom 0 (r .entries)))
+    ++ line (decimal k ∷ importsWord ∷ map decimal (markedFrom 0 (r .imports)))
+    ++ line (decimal k ∷ clockWord ∷ yesOrNo (r .clock) ∷ [])
+
+-- with its name, all four
+pub lays-rule : {dst named after : List ℕ} {at next end : ℕ} {label : List ℕ} (s : List ℕ) (k : ℕ) (e : Entry) (r : Reach) → label ≡ textOf s (labelOf s k)
+    → Lays dst at (line (decimal k ∷ ruleWord e ∷ label ∷ [])) named next → Lays named next (reachLines k r) after end → Lays dst at (ruleLines s k e r) after end
+unfolding ruleLines
+lays-rule {dst} {named} {at = at} {next} s k e r is name reached =
+    simp append-assoc
+    (simp append-assoc at (lays-then (subst (λ (l : List ℕ). Lays dst at (line (decimal k ∷ ruleWord e ∷ l ∷ [])) named next) is name) reached))
 
 -- the lines of entry k, if it is an alarm or a property
 abbrev pub linesAt : List ℕ → Table → ℕ → List ℕ

@@ -6,6 +6,7 @@ use native.Mathlib.Omega.{arith}
 use Rattle.refusals.specs.declared.Refusal.{Refusal}
 use Rattle.refusals.specs.declared.Answer.{Answer}
 use Rattle.refusals.specs.Numbering.{numberOf}
+use Rattle.refusals.specs.Accepting.{not-accepted}
 use Rattle.bits.specs.Reading.{Got, got, refused}
 use Rattle.table.specs.declared.Table.{Table}
 use Rattle.table.specs.Limits.{limits}
@@ -17,15 +18,15 @@ use Rattle.lines.specs.Text.{decimal, scriptWord, refusedWord, line, scriptLine
 use Rattle.lines.specs.Laying.{Lays, lays-then}
 use Rattle.inspection.specs.Inspected.{rulesTo, linesOf, inspected}
 
--- accepted
+-- what is shown where the reader answers that the script is accepted
 accepted-lines : (s : List ℕ) (m : Got Table) → scriptReply m .answer ≡ Answer.Accepted
     → linesOf s m ≡ scriptLine (scriptReply m .table .n) ++ rulesTo s (scriptReply m .table) (scriptReply m .table .n)
 accepted-lines s (got t end) good = refl
-accepted-lines s (refused r) good = absurd (let z : _≡_ {A = ℕ} 0 1 = cc good in omega arith)
+accepted-lines s (refused r) good = not-accepted r good
 
--- refused
+-- and where it answers that it is refused
 refused-lines : (s : List ℕ) (m : Got Table) (r : Refusal) → scriptReply m .answer ≡ Answer.Refused r → linesOf s m ≡ scriptRefusedLine r
-refused-lines s (got t end) r bad = absurd (let z : _≡_ {A = ℕ} 0 1 = cc bad in omega arith)
+refused-lines s (got t end) r bad = not-accepted r (sym bad)
 refused-lines s (refused f) r bad = ap scriptRefusedLine (cc bad)
 
 -- a script that is read has no more entries than there are slots
@@ -37,6 +38,7 @@ reply-few : (m : Got Table) → ((t : Table) (end : ℕ) → m ≡ got t end →
 reply-few (got t end) few = few t end refl
 reply-few (refused r) few = omega arith
 
+-- so the reader's table never has more
 pub read-few : {read : Script} (s : List ℕ) → read ≡ readScript s → read .table .n ≤ limits .entries
 unfolding readScript
 read-few s is = subst (λ (x : Script). x .table .n ≤ limits .entries) (sym is) (reply-few (scriptOf s) (script-few s))

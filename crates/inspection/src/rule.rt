@@ -7,6 +7,7 @@ ghost use mathlib.Core.List.{[], _∷_, map};
 ghost use Rattle.lines.specs.Laying.{Lays};
 ghost use Rattle.lines.specs.Text.{decimal, line};
 ghost use Rattle.inspection.specs.Inspected.{clockWord, yesOrNo, markedFrom, ruleWord, ruleLines};
+ghost use Rattle.inspection.specs.Rules.{reachLines};
 
 // An entry's number, a word and a text.
 fn text_line(out: &mut [u8], at: usize, k: usize, word: &[u8], text: &[u8]) -> usize
@@ -49,6 +50,15 @@ fn clock_line(out: &mut [u8], at: usize, k: usize, clock: bool) -> usize
     text_line(out, at, k, b"clock", b"no")
 }
 
+// What it reaches: its entries, its imports, and whether it has the clock.
+fn reach_lines(out: &mut [u8], at: usize, k: usize, reach: Reach) -> usize
+    ensures { λ r. ⌜ Lays (now (out .entry)) at (reachLines k reach) (now (out .exit)) r ⌝ }
+{
+    let at = marks_line(out, at, k, b"entries", &reach.entries);
+    let at = marks_line(out, at, k, b"imports", &reach.imports);
+    clock_line(out, at, k, reach.clock)
+}
+
 // The four lines of entry k of a script.
 pub(crate) fn rule_lines(
     s: &[u8],
@@ -63,7 +73,5 @@ pub(crate) fn rule_lines(
     let mut number: u8 = 0;
     let label = parts::label(s, k, &mut number);
     let at = name_line(out, at, k, e, label);
-    let at = marks_line(out, at, k, b"entries", &reach.entries);
-    let at = marks_line(out, at, k, b"imports", &reach.imports);
-    clock_line(out, at, k, reach.clock)
+    reach_lines(out, at, k, reach)
 }
