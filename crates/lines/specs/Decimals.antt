@@ -1,4 +1,5 @@
 -- Laws of decimal digits: the last digit is the remainder, the others are those of the quotient.
+use mathlib.Core.Bool.{Bool, true, false, cond}
 use mathlib.Core.List.{List, [], _∷_, _++_}
 use mathlib.Core.Path.{_≡_, refl, sym, ap, subst}
 use Prim.Native.Nat.{ℕ, zero, suc, _+_, _/_, _%_, _^_, _<_, _≤_}
@@ -6,31 +7,39 @@ use native.Mathlib.Decide.{decLt}
 use native.Mathlib.Nat.{not-suc-le-zero, pow-suc}
 use native.Mathlib.Omega.{arith}
 use borrow.Author.Tests.{lt-ltb, le-ltb}
+use lib.Dec.{ltb}
 use lib.ListN.{length, length-append}
 use Rattle.lines.specs.Text.{digitsTo, decimal}
 use Rattle.lines.specs.Laying.{Lays, lays-then}
 
+-- the two cases of the definition as a `cond`, which `rw` looks into
+digits-cases : (most n : ℕ) → digitsTo (suc most) n ≡ cond (ltb n 10) ((48 + n) ∷ []) (digitsTo most (n / 10) ++ ((48 + n % 10) ∷ []))
+unfolding digitsTo
+digits-cases most n =
+    let one = (48 + n) ∷ [] in
+    let more = digitsTo most (n / 10) ++ ((48 + n % 10) ∷ []) in
+    elim (ltb n 10) as (λ (b : Bool). elim b [ true ↦ one | false ↦ more ] ≡ cond b one more) [ true ↦ refl | false ↦ refl ]
+
 -- as many digits as there may be, where that is enough, don't matter
 digits-enough : (most more n : ℕ) → n < most → n < more → digitsTo most n ≡ digitsTo more n
-unfolding digitsTo
 digits-enough zero more n enough also = absurd (not-suc-le-zero enough)
 digits-enough (suc most) zero n enough also = absurd (not-suc-le-zero also)
 digits-enough (suc most) (suc more) n enough also =
     elim (decLt n 10) [
-      | yes l ↦ rw (lt-ltb n 10 l) refl
-      | no h ↦ rw (le-ltb n 10 (omega arith)) (ap (λ (d : List ℕ). d ++ ((48 + n % 10) ∷ [])) (digits-enough most more (n / 10) (omega arith) (omega arith)))
+      | yes l ↦ rw (digits-cases most n, digits-cases more n, lt-ltb n 10 l) refl
+      | no h ↦ rw (digits-cases most n, digits-cases more n, le-ltb n 10 (omega arith)) (ap (λ (d : List ℕ). d ++ ((48 + n % 10) ∷ [])) (digits-enough most more (n / 10) (omega arith) (omega arith)))
     ]
 
 -- one digit
 pub decimal-one : (n : ℕ) → n < 10 → decimal n ≡ (48 + n % 10) ∷ []
-unfolding decimal digitsTo
-decimal-one n small = let one : n ≡ n % 10 = omega arith in rw (lt-ltb n 10 small) (ap (λ (m : ℕ). (48 + m) ∷ []) one)
+unfolding decimal
+decimal-one n small = let one : n ≡ n % 10 = omega arith in rw (digits-cases n n, lt-ltb n 10 small) (ap (λ (m : ℕ). (48 + m) ∷ []) one)
 
 -- more than one
 pub decimal-more : (n : ℕ) → 10 ≤ n → decimal n ≡ decimal (n / 10) ++ ((48 + n % 10) ∷ [])
-unfolding decimal digitsTo
+unfolding decimal
 decimal-more n large =
-    rw (le-ltb n 10 large) (ap (λ (d : List ℕ). d ++ ((48 + n % 10) ∷ [])) (digits-enough n (suc (n / 10)) (n / 10) (omega arith) (omega arith)))
+    rw (digits-cases n n, le-ltb n 10 large) (ap (λ (d : List ℕ). d ++ ((48 + n % 10) ∷ [])) (digits-enough n (suc (n / 10)) (n / 10) (omega arith) (omega arith)))
 
 -- a number of one digit, laid
 pub lays-digit : {dst after : List ℕ} {at next : ℕ} (n : ℕ) → n < 10 → Lays dst at ((48 + n % 10) ∷ []) after next → Lays dst at (decimal n) after next

@@ -1,15 +1,15 @@
 -- Lines of text in ASCII. "Fields are parted by one space"; every line ends in a line feed.
-use mathlib.Core.Bool.{cond}
+use mathlib.Core.Bool.{true, false}
 use mathlib.Core.List.{List, [], _∷_, _++_}
 use Prim.Native.Nat.{ℕ, zero, suc, _+_, _/_, _%_}
 use lib.Dec.{ltb}
 use Rattle.refusals.specs.declared.Refusal.{Refusal}
 use Rattle.refusals.specs.Numbering.{numberOf}
 
--- a number in decimal digits, at most so many
+-- a number in decimal digits, at most so many; an `elim` computes only the case that it takes, so that large numbers can be run
 unfoldable pub digitsTo : ℕ → ℕ → List ℕ
 digitsTo zero n = []
-digitsTo (suc most) n = cond (ltb n 10) ((48 + n) ∷ []) (digitsTo most (n / 10) ++ ((48 + n % 10) ∷ []))
+digitsTo (suc most) n = elim (ltb n 10) [ true ↦ (48 + n) ∷ [] | false ↦ digitsTo most (n / 10) ++ ((48 + n % 10) ∷ []) ]
 
 -- a number in decimal digits, with no leading zero
 unfoldable pub decimal : ℕ → List ℕ

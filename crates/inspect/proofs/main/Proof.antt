@@ -1,17 +1,14 @@
 -- What is shown is the first part of its room.
-use mathlib.Core.Path.{sym, subst}
-use Prim.Native.Nat.{ℕ, _≤_}
+use mathlib.Core.Path.{sym}
+use native.Mathlib.Omega.{arith}
 use borrow.Author.Needs.{needs}
 use lib.Seq.{length-take-le}
-use Rattle.lines.specs.Laying.{lays-length}
 use Rattle.inspect.proofs.main.Statement.{statement}
 use Rattle.inspect.proofs.main.Tie as tie
 
 -- the first m bytes are m bytes
 first-part : tie.Need-slice-aggregate-write-all
-first-part c =
-    let said = c .before .before .lines .ensures in
-    sym (length-take-le _ _ (subst (λ (room : ℕ). c .before .before .lines .result ≤ room) (sym (lays-length (said .0))) (said .1)))
+first-part c = sym (length-take-le _ _ (omega (arith, c .before .before .lines .ensures .1)))
 
 pub main-spec : {M : Type 1} → statement M
 main-spec =
