@@ -3,7 +3,7 @@ use mathlib.Core.Bool.{Bool, true, false, _&&_, _||_, or-true}
 use mathlib.Core.List.{List, [], _∷_}
 use mathlib.Core.Option.{Option, none, some}
 use mathlib.Core.Logic.{_↔_}
-use mathlib.Core.Path.{_≡_}
+use mathlib.Core.Path.{_≡_, refl}
 use Prim.Native.Nat.{ℕ, _<_, _≤_}
 use lib.Dec.{T, ltb, eqb}
 use lib.ListN.{length, getD, replicate}
@@ -103,16 +103,16 @@ abbrev pub ReachReply : Table → ℕ → Answer → Reach → Type 0
 ReachReply t k Answer.Accepted r = (r .answer ≡ Answer.Accepted) × Shows t k r
 ReachReply t k (Answer.Refused f) r = r ≡ noMarks f
 
+-- "with any entry, its operand entries"
+pub leads-to-operands : (t : Table) (j o : ℕ) → isOperand (operandsOf (entryAt t j)) o ≡ true → leadsTo t j o ≡ true
+unfolding leadsTo
+leads-to-operands t j o operand = rw operand refl
+
 -- "every update of that variable, wherever it stands"
 pub reads-every-update : (t : Table) (j o : ℕ) (u : Change) → isRead (operandsOf (entryAt t j)) (u .variable) ≡ true → updateOf (entryAt t o) ≡ some u
     → leadsTo t j o ≡ true
 unfolding leadsTo
-reads-every-update t j o u read update = rw (update, read, or-true)
-
--- "with any entry, its operand entries"
-pub leads-to-operands : (t : Table) (j o : ℕ) → isOperand (operandsOf (entryAt t j)) o ≡ true → leadsTo t j o ≡ true
-unfolding leadsTo
-leads-to-operands t j o operand = rw operand
+reads-every-update t j o u read update = rw (update, read) (or-true (isOperand (operandsOf (entryAt t j)) o))
 
 -- two least sets hold the same entries
 pub least-same : (leads : ℕ → ℕ → Bool) (n k : ℕ) (S R : Entries) → Least leads n k S → Least leads n k R → (j : ℕ) → j < n → T (S j) ↔ T (R j)
