@@ -6,13 +6,10 @@ use Rattle.bits.specs.Bits.{theBits}
 use Rattle.bits.specs.Twos.{theTwos}
 use Rattle.table.specs.Faults.{theFaults}
 use Rattle.script.specs.Reader.{theReader}
+use Rattle.script.specs.Orders.{recordedScript}
 use Rattle.reach.specs.Spreading.{theReach}
 use Rattle.lines.specs.Text.{theText}
 use Rattle.inspection.specs.Inspected.{markedFrom, ruleLines, rulesTo, inspected}
-
--- "01 04 04 00 00 01 80 50 1B 82 04 4C 45 41 50": "It imports condition 0, negates it, takes the start, raises alarm LEAP."
-abbrev pub recordedScript : List ℕ
-recordedScript = 0x01 ∷ 0x04 ∷ 0x04 ∷ 0x00 ∷ 0x00 ∷ 0x01 ∷ 0x80 ∷ 0x50 ∷ 0x1B ∷ 0x82 ∷ 0x04 ∷ 0x4C ∷ 0x45 ∷ 0x41 ∷ 0x50 ∷ []
 
 -- "script 4", "3 alarm LEAP", "3 entries 0 1 2 3", "3 imports 0", "3 clock no", a line to a line
 abbrev pub recordedLines : List ℕ

@@ -6,16 +6,13 @@ use Rattle.bits.specs.Bits.{theBits}
 use Rattle.bits.specs.Twos.{theTwos}
 use Rattle.table.specs.Faults.{theFaults}
 use Rattle.script.specs.Reader.{theReader}
+use Rattle.script.specs.Orders.{recordedScript}
 use Rattle.step.specs.Reader.{theStep}
 use Rattle.history.specs.History.{theLogic}
 use Rattle.history.specs.Offered.{offered}
 use Rattle.stream.specs.Lines.{theLines}
 use Rattle.stream.specs.Records.{nextRecord, recordsTo, recordsOf}
 use Rattle.stream.specs.Replay.{rowLines, stepsFrom, replayed}
-
--- 16-bit length and "01 04 04 00 00 01 80 50 1B 82 04 4C 45 41 50"
-abbrev pub recordedScript : List ℕ
-recordedScript = 0 ∷ 15 ∷ 0x01 ∷ 0x04 ∷ 0x04 ∷ 0x00 ∷ 0x00 ∷ 0x01 ∷ 0x80 ∷ 0x50 ∷ 0x1B ∷ 0x82 ∷ 0x04 ∷ 0x4C ∷ 0x45 ∷ 0x41 ∷ 0x50 ∷ []
 
 -- "Steps, each with length 8": time 1000, true; 2000, false; 3000, undefined; 4000, false
 abbrev pub recordedSteps : List ℕ
@@ -36,7 +33,7 @@ recordedOutput =
     ∷ 115 ∷ 116 ∷ 101 ∷ 112 ∷ 115 ∷ 32 ∷ 52 ∷ 32 ∷ 114 ∷ 101 ∷ 102 ∷ 117 ∷ 115 ∷ 101 ∷ 100 ∷ 32 ∷ 48 ∷ 10
     ∷ []
 
--- what the program prints is what the document prints
-pub recorded : replayed (recordedScript ++ recordedSteps) ≡ recordedOutput
+-- what the program prints for "a 16-bit length and the script, then records" is what the document prints
+pub recorded : replayed (0 ∷ 15 ∷ recordedScript ++ recordedSteps) ≡ recordedOutput
 unfolding theBits theTwos theFaults theReader theStep theLogic offered theLines nextRecord recordsTo recordsOf rowLines stepsFrom replayed
 recorded = refl
