@@ -5,7 +5,6 @@ use Prim.Native.Nat.{ℕ, _≤_}
 use native.Mathlib.Omega.{arith}
 use Rattle.refusals.specs.declared.Refusal.{Refusal}
 use Rattle.refusals.specs.declared.Answer.{Answer}
-use Rattle.refusals.specs.Numbering.{numberOf}
 use Rattle.refusals.specs.Accepting.{not-accepted}
 use Rattle.bits.specs.Reading.{Got, got, refused}
 use Rattle.table.specs.declared.Table.{Table}
@@ -14,7 +13,7 @@ use Rattle.table.specs.Sound.{sound-table}
 use Rattle.script.specs.declared.Script.{Script}
 use Rattle.script.specs.Reader.{scriptOf, scriptReply, readScript}
 use Rattle.roundtrip.specs.ReadAgain.{read-sound}
-use Rattle.lines.specs.Text.{decimal, scriptWord, refusedWord, line, scriptLine, scriptRefusedLine}
+use Rattle.lines.specs.Text.{scriptLine, scriptRefusedLine}
 use Rattle.lines.specs.Laying.{Lays, lays-then}
 use Rattle.inspection.specs.Inspected.{rulesTo, linesOf, inspected}
 
@@ -55,10 +54,8 @@ module _ {dst mid after : List ℕ} {at next : ℕ} {read : Script} (s : List �
       (lays-then first rules)
 
 -- a refused script's line
-pub lays-refused : {dst after : List ℕ} {next n : ℕ} {read : Script} {r : Refusal} (s : List ℕ) → read ≡ readScript s → read .answer ≡ Answer.Refused r → n ≡ numberOf r
-    → Lays dst 0 (line (scriptWord ∷ refusedWord ∷ decimal n ∷ [])) after next → Lays dst 0 (inspected s) after next
-unfolding readScript inspected scriptRefusedLine
-lays-refused {dst} {after} {next} {r = r} s is bad number laid =
-    subst (λ (text : List ℕ). Lays dst 0 text after next)
-    (ap (λ (m : ℕ). line (scriptWord ∷ refusedWord ∷ decimal m ∷ [])) number ∙ sym (refused-lines s (scriptOf s) r (ap (λ (x : Script). x .answer) (sym is) ∙ bad)))
-    laid
+pub lays-refused : {dst after : List ℕ} {next : ℕ} {read : Script} {r : Refusal} (s : List ℕ) → read ≡ readScript s → read .answer ≡ Answer.Refused r
+    → Lays dst 0 (scriptRefusedLine r) after next → Lays dst 0 (inspected s) after next
+unfolding readScript inspected
+lays-refused {dst} {after} {next} {r = r} s is bad laid =
+    subst (λ (text : List ℕ). Lays dst 0 text after next) (sym (refused-lines s (scriptOf s) r (ap (λ (x : Script). x .answer) (sym is) ∙ bad))) laid

@@ -2,37 +2,14 @@
 mod fields;
 mod rule;
 
-use fields::put_number;
-use fields::put_word;
 use refusals::Answer;
 use rule::rule_lines;
 use table::Table;
-ghost use mathlib.Core.List.{[], _∷_};
 ghost use Prim.Native.Nat.{_<_, _≤_};
 ghost use lib.ListN.{length};
 ghost use Rattle.lines.specs.Laying.{Lays};
-ghost use Rattle.lines.specs.Text.{decimal, scriptWord, refusedWord, line, scriptLine};
 ghost use Rattle.inspection.specs.Inspected.{rulesTo, inspected};
 ghost use Rattle.inspection.specs.Rules.{linesAt};
-
-// "script N"
-fn script_line(out: &mut [u8], n: usize) -> usize
-    ensures { λ r. ⌜ Lays (now (out .entry)) 0 (scriptLine n) (now (out .exit)) r ⌝ }
-{
-    let at = lines::put(out, 0, b"script");
-    let at = put_number(out, at, n);
-    lines::put_byte(out, at, b'\n')
-}
-
-// "script refused", and a number.
-fn refused_line(out: &mut [u8], n: u8) -> usize
-    ensures { λ r. ⌜ Lays (now (out .entry)) 0 (line (scriptWord ∷ refusedWord ∷ decimal n ∷ [])) (now (out .exit)) r ⌝ }
-{
-    let at = lines::put(out, 0, b"script");
-    let at = put_word(out, at, b"refused");
-    let at = put_number(out, at, n as usize);
-    lines::put_byte(out, at, b'\n')
-}
 
 // The lines of entry k, if it is an alarm or a property.
 fn entry_lines(s: &[u8], t: Table, k: usize, out: &mut [u8], at: usize) -> usize
@@ -71,9 +48,9 @@ pub fn lines(script: &[u8], out: &mut [u8]) -> usize
     match answer {
         Answer::Accepted => {
             let t = read.table;
-            let at = script_line(out, t.n);
+            let at = lines::put_script(out, 0, t.n);
             rules(script, t, out, at)
         }
-        Answer::Refused(r) => refused_line(out, refusals::number(r)),
+        Answer::Refused(r) => lines::put_script_refused(out, 0, r),
     }
 }

@@ -1,6 +1,5 @@
 // The four lines of a rule: its name, its entries, its imports, and whether it has the clock.
 use crate::fields::put_marks;
-use crate::fields::put_word;
 use reach::Reach;
 use table::Entry;
 ghost use mathlib.Core.List.{[], _∷_, map};
@@ -14,8 +13,8 @@ fn text_line(out: &mut [u8], at: usize, k: usize, word: &[u8], text: &[u8]) -> u
     ensures { λ r. ⌜ Lays (now (out .entry)) at (line (decimal k ∷ now (word .entry) ∷ now (text .entry) ∷ [])) (now (out .exit)) r ⌝ }
 {
     let at = lines::put_decimal(out, at, k as u64);
-    let at = put_word(out, at, word);
-    let at = put_word(out, at, text);
+    let at = lines::put_word(out, at, word);
+    let at = lines::put_word(out, at, text);
     lines::put_byte(out, at, b'\n')
 }
 
@@ -24,7 +23,7 @@ fn marks_line(out: &mut [u8], at: usize, k: usize, word: &[u8], marks: &[bool]) 
     ensures { λ r. ⌜ Lays (now (out .entry)) at (line (decimal k ∷ now (word .entry) ∷ map decimal (markedFrom 0 (now (marks .entry))))) (now (out .exit)) r ⌝ }
 {
     let at = lines::put_decimal(out, at, k as u64);
-    let at = put_word(out, at, word);
+    let at = lines::put_word(out, at, word);
     let at = put_marks(out, at, marks);
     lines::put_byte(out, at, b'\n')
 }

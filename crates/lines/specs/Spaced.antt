@@ -1,10 +1,12 @@
 -- A line in pieces: its first field, each later one with a space before it, and the line feed.
 use mathlib.Core.List.{List, [], _∷_, _++_, append-assoc, append-nil}
-use mathlib.Core.Path.{_≡_, refl, sym, _∙_, ap}
+use mathlib.Core.Path.{_≡_, refl, sym, _∙_, ap, subst}
 use Prim.Native.Nat.{ℕ, _+_}
 use native.Mathlib.Omega.{arith}
 use lib.ListN.{length, length-append}
-use Rattle.lines.specs.Text.{line}
+use Rattle.refusals.specs.declared.Refusal.{Refusal}
+use Rattle.refusals.specs.Numbering.{numberOf}
+use Rattle.lines.specs.Text.{decimal, scriptWord, refusedWord, line, scriptRefusedLine}
 use Rattle.lines.specs.Laying.{Lays, lays-then}
 
 -- fields with a space before each
@@ -47,3 +49,9 @@ module _ {dst mid after : List ℕ} {at next end : ℕ} where
 pub lays-last : {dst after : List ℕ} {at next : ℕ} (f : List ℕ) → Lays dst at (32 ∷ f) after next → Lays dst at (spaced (f ∷ [])) after next
 unfolding spaced
 lays-last f lays = rw (append-nil f) lays
+
+-- the line of a refused script, by the refusal's number
+pub lays-refused : {dst after : List ℕ} {at next n : ℕ} (r : Refusal) → n ≡ numberOf r
+    → Lays dst at (line (scriptWord ∷ refusedWord ∷ decimal n ∷ [])) after next → Lays dst at (scriptRefusedLine r) after next
+unfolding scriptRefusedLine
+lays-refused {dst} {after} {at} {next} r is lays = subst (λ (m : ℕ). Lays dst at (line (scriptWord ∷ refusedWord ∷ decimal m ∷ [])) after next) is lays

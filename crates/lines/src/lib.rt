@@ -1,4 +1,11 @@
 // Lines of text laid into a lent destination, as far as there is room.
+mod fields;
+mod heading;
+
+pub use fields::put_number;
+pub use fields::put_word;
+pub use heading::put_script;
+pub use heading::put_script_refused;
 ghost use mathlib.Core.List.{[], _∷_};
 ghost use Prim.Native.Nat.{_+_, _%_};
 ghost use Rattle.lines.specs.Text.{decimal};

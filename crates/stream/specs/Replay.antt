@@ -2,24 +2,29 @@
 use mathlib.Core.Bool.{Bool, true, false}
 use mathlib.Core.List.{List, [], _∷_, _++_}
 use Prim.Native.Nat.{ℕ, zero, suc}
+use Rattle.values.specs.declared.Outcome.{Outcome}
 use Rattle.bits.specs.Reading.{Got, got, refused}
 use Rattle.table.specs.declared.Table.{Table}
 use Rattle.script.specs.Reader.{scriptOf, labelOf, textOf}
 use Rattle.step.specs.Steps.{Step}
-use Rattle.history.specs.History.{History, Row, rowAt, latestRow, momentsBy, judge}
+use Rattle.history.specs.History.{History, resultAt}
 use Rattle.history.specs.Offered.{offered, grown}
 use Rattle.stream.specs.Records.{recordsOf}
 use Rattle.lines.specs.Text.{scriptLine, scriptRefusedLine}
 use Rattle.stream.specs.Lines.{refusedLine, cutLine, lastLine, resultLine}
 
--- the lines of a step's results, "in ... entry order"
-unfoldable pub rowLines : List ℕ → ℕ → Row → ℕ → List ℕ
-rowLines script time row zero = []
-rowLines script time row (suc k) = rowLines script time row k ++ resultLine time k (textOf script (labelOf script k)) (rowAt row k)
+-- the lines of a step's results, "in ... entry order", by the label and the result of each entry
+unfoldable pub rowLines : (ℕ → List ℕ) → ℕ → (ℕ → Outcome) → ℕ → List ℕ
+rowLines label time result zero = []
+rowLines label time result (suc k) = rowLines label time result k ++ resultLine time k (label k) (result k)
+
+-- the text of an entry's label
+abbrev pub labelText : List ℕ → ℕ → List ℕ
+labelText script k = textOf script (labelOf script k)
 
 -- what one offered step prints
 abbrev pub stepLines : Table → List ℕ → History → Got Step → List ℕ
-stepLines t script h (got s end) = rowLines script (s .time) (latestRow (momentsBy judge t (s ∷ h))) (t .n)
+stepLines t script h (got s end) = rowLines (labelText script) (s .time) (resultAt t (s ∷ h)) (t .n)
 stepLines t script h (refused r) = refusedLine r
 
 -- how many steps were accepted and refused

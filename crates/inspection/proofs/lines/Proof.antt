@@ -24,7 +24,6 @@ lines-spec =
     rules-requires
     (λ c. search needs)
     (λ c κs. search needs)
-    (λ c κs. search needs)
     (λ c. search needs)
     returns
     (λ c. search needs)

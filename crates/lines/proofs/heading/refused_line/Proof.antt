@@ -1,8 +1,8 @@
--- `inspection::refused_line` meets its contract: the two words, the number, the line feed.
+-- `lines::heading::refused_line` meets its contract: the two words, the number, the line feed.
 use borrow.Author.Needs.{needs}
 use Rattle.lines.specs.Spaced.{lays-line, lays-field, lays-last}
-use Rattle.inspection.proofs.refused_line.Statement.{statement}
-use Rattle.inspection.proofs.refused_line.Tie as tie
+use Rattle.lines.proofs.heading.refused_line.Statement.{statement}
+use Rattle.lines.proofs.heading.refused_line.Tie as tie
 
 returns : tie.Need-returns
 returns c =

@@ -1,0 +1,1 @@
+-- No move prints more than there is room for.

@@ -1,0 +1,9 @@
+-- A recorded stream played piece by piece, and that the lines of the pieces are those of the whole stream.
+pub mod Moving
+pub mod Framing
+pub mod Texts
+pub mod Printing
+pub mod Turning
+pub mod Fitting
+pub mod Pieces
+pub mod Whole

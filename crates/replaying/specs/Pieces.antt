@@ -1,0 +1,1 @@
+-- A stream that comes in pieces: turn after turn, what is printed is what one whole input prints.

@@ -1,0 +1,1 @@
+-- The lines of a step's reply as they are laid, one after another.

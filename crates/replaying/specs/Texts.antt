@@ -1,0 +1,1 @@
+-- The texts of labels, kept 32 bytes to an entry.

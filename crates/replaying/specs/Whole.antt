@@ -1,0 +1,1 @@
+-- What a new player prints of a whole stream is what document 01 says of it.

@@ -1,0 +1,1 @@
+-- How a stream goes on after a whole record.
