@@ -1,12 +1,29 @@
 -- A turn as the code takes it: record after record, and then the end.
-use mathlib.Core.List.{List}
-use mathlib.Core.Path.{_≡_}
-use Prim.Native.Nat.{ℕ, _<_, _≤_}
-use lib.ListN.{drop}
+use mathlib.Core.Bool.{Bool, true, false, cond}
+use mathlib.Core.List.{List, [], _∷_, _++_}
+use mathlib.Core.Path.{_≡_, refl, sym, _∙_, ap, subst}
+use Prim.Native.Nat.{ℕ, suc, _+_, _-_, _*_, _<_, _≤_}
+use native.Mathlib.Decide.{decLt}
+use native.Mathlib.Omega.{arith}
+use borrow.Author.Tests.{lt-ltb, le-ltb}
+use lib.Dec.{leb, ltb}
+use lib.ListN.{length, take, drop, length-drop}
+use lib.Seq.{drop-length}
+use Rattle.bits.specs.Reading.{Got}
+use Rattle.table.specs.declared.Table.{Table}
+use Rattle.script.specs.Reader.{scriptOf}
+use Rattle.monitor.specs.declared.Stepped.{Stepped}
+use Rattle.monitor.specs.Stepping.{stepOf}
+use Rattle.lines.specs.Laying.{endOf, Lays, lays-none, lays-then, lays-length, end-within}
+use Rattle.stream.specs.Lines.{cutLine}
 use Rattle.stream.specs.Records.{Next, end, stops, whole, nextRecord}
+use Rattle.stream.specs.Replay.{closing}
 use Rattle.replaying.specs.declared.Stage.{Stage}
 use Rattle.replaying.specs.declared.Player.{Player}
-use Rattle.replaying.specs.Moving.{moveRoom}
+use Rattle.replaying.specs.declared.Turn.{Turn}
+use Rattle.replaying.specs.declared.framing.Record.{Record}
+use Rattle.replaying.specs.Moving.{textKept, replyLines, onward, finished, openingLine, openedBy, Move, waits, says, scriptMove, stepMove, moveAt, moveOf, moveRoom, Moves, full, idle, move, isOver, Turned}
+use Rattle.replaying.specs.Framing.{nextIn, Framed}
 
 -- no whole record comes next
 abbrev pub NoWhole : Next → Type 0
@@ -18,3 +35,194 @@ NoWhole (whole bytes rest) = ⊥
 pub record Idle (p : Player) (input : List ℕ) (at room : ℕ) : Type 0 where
   pub stage : p .stage ≡ Stage.Steps
   pub none : moveRoom ≤ room → NoWhole (nextRecord (drop at input))
+
+-- the room that a text leaves
+pub end-room : (room at : ℕ) (text : List ℕ) → at ≤ room → room - endOf room at text ≡ room - at - length text
+unfolding endOf
+end-room room at [] within = omega arith
+end-room room at (b ∷ text) within =
+    elim (decLt at room) [
+      | yes l ↦ rw (lt-ltb at room l) (end-room room (suc at) text (omega arith) ∙ omega arith)
+      | no h ↦ rw (le-ltb at room (omega arith)) (end-room room at text within ∙ omega arith)
+    ]
+
+-- a turn without a move
+abbrev pub staying : Player → Bool → ℕ → ℕ → Turn
+staying p over at filled = record { player = p; over = over; taken = at; filled = filled }
+
+module _ {p : Player} {ended : Bool} {input : List ℕ} {from : ℕ} {out : List ℕ} {start : ℕ} where
+  -- no move, since none is there or there is no room
+  turned-none : Moves ended (length out - start) p (drop from input) [] p (drop from input) → from ≤ length input → start ≤ length out → (over : Bool) → over ≡ isOver (p .stage)
+      → Turned p ended input from out start out (staying p over from start)
+  turned-none none within room over is = record { text = []; moves = none; lays = lays-none out start; within = within; room = room; done = is }
+
+  -- a move, and then a turn of the player that it leaves
+  pub turned-after : {q : Player} {at : ℕ} {text mid after : List ℕ} {next : ℕ} {t : Turn} → start ≤ length out → moveRoom ≤ length out - start
+      → moveOf p ended (drop from input) ≡ says text q (drop at input) → Lays out start text mid next → Turned q ended input at mid next after t
+      → Turned p ended input from out start after t
+  turned-after {q} {at} {text} {mid} {after} {next} {t} within room is lays later =
+      let same = lays-length lays in
+      let left : length mid - next ≡ length out - start - length text =
+          (λ i. same i - lays .place i) ∙ end-room (length out) start text within in
+      record {
+        text = text ++ later .text;
+        moves = move room is (subst (λ (n : ℕ). Moves ended n q (drop at input) (later .text) (t .player) (drop (t .taken) input)) left (later .moves));
+        lays = lays-then lays (later .lays);
+        within = later .within;
+        room = subst (λ (n : ℕ). t .filled ≤ n) same (later .room);
+        done = later .done;
+      }
+
+  -- there is no room for a move
+  pub turned-full : length out - start < moveRoom → from ≤ length input → start ≤ length out → (over : Bool) → over ≡ isOver (p .stage)
+      → Turned p ended input from out start out (staying p over from start)
+  turned-full short within room over is = turned-none (full short) within room over is
+
+  -- a player that is over has no move
+  pub turned-over : p .stage ≡ Stage.Over → from ≤ length input → start ≤ length out → Turned p ended input from out start out (staying p true from start)
+  unfolding moveOf
+  turned-over stage within room =
+      turned-none (idle (ap (λ (s : Stage). moveAt s p ended (nextRecord (drop from input))) stage)) within room true (ap isOver (sym stage))
+
+module _ {p : Player} {ended : Bool} {input : List ℕ} {from : ℕ} {out : List ℕ} {start : ℕ} where
+  -- all is printed, and all of the input is taken
+  pub turned-last : {text mid : List ℕ} {next : ℕ} → start ≤ length out → moveRoom ≤ length out - start → moveOf p ended (drop from input) ≡ says text (finished p) []
+      → Lays out start text mid next → Turned p ended input from out start mid (staying (finished p) true (length input) next)
+  turned-last {text} {mid} {next} within room is lays =
+      turned-after within room (is ∙ ap (says text (finished p)) (sym (drop-length input))) lays
+      (turned-over refl (omega arith) (omega (arith, lays .place, end-within (length out) start text within, lays-length lays)))
+
+-- a record that is not whole stops inside
+not-whole : (b : Bool) (bytes rest : List ℕ) → NoWhole (cond b (whole bytes rest) stops) → cond b (whole bytes rest) stops ≡ stops
+not-whole true bytes rest none = absurd none
+not-whole false bytes rest none = refl
+
+-- where no whole record comes next, the input ends there if nothing is left, and stops inside a record if something is
+next-left : (x : List ℕ) → NoWhole (nextRecord x) → nextRecord x ≡ cond (ltb 0 (length x)) stops end
+unfolding nextRecord
+next-left [] none = refl
+next-left (high ∷ []) none = refl
+next-left (high ∷ low ∷ rest) none =
+    let size = high * 256 + low in
+    not-whole (leb size (length rest)) (take size rest) (drop size rest) none
+    ∙ sym (ap (λ (b : Bool). cond b stops end) (lt-ltb 0 (suc (suc (length rest))) (omega arith)))
+
+-- something is left exactly where the place stands before the end
+left-after : (input : List ℕ) (at : ℕ) → ltb at (length input) ≡ ltb 0 (length (drop at input))
+left-after input at =
+    elim (decLt at (length input)) [
+      | yes l ↦ lt-ltb at (length input) l ∙ sym (lt-ltb 0 (length (drop at input)) (omega (arith, length-drop at input)))
+      | no h ↦ le-ltb at (length input) (omega arith) ∙ sym (le-ltb 0 (length (drop at input)) (omega (arith, length-drop at input)))
+    ]
+
+-- a record may yet come
+waits-record : (p : Player) (next : Next) → NoWhole next → stepMove p false next ≡ waits
+waits-record p end none = refl
+waits-record p stops none = refl
+waits-record p (whole bytes rest) none = absurd none
+
+-- the script may
+waits-script : (p : Player) (next : Next) → NoWhole next → scriptMove p false next ≡ waits
+waits-script p end none = refl
+waits-script p stops none = refl
+waits-script p (whole bytes rest) none = absurd none
+
+-- the script will never be whole
+cut-script : (p : Player) (next : Next) → NoWhole next → scriptMove p true next ≡ says cutLine (finished p) []
+cut-script p end none = refl
+cut-script p stops none = refl
+cut-script p (whole bytes rest) none = absurd none
+
+-- the last lines
+last-lines : (p : Player) (cut : Bool) → stepMove p true (cond cut stops end) ≡ says (closing cut (record { accepted = p .accepted; refused = p .refused })) (finished p) []
+last-lines p true = refl
+last-lines p false = refl
+
+module _ {p : Player} {input : List ℕ} {at : ℕ} {out : List ℕ} {filled : ℕ} (idles : Idle p input at (length out - filled)) (within : at ≤ length input) (room : filled ≤ length out) where
+  -- there is no room for the last lines
+  pub close-full : {ended : Bool} → length out - filled < moveRoom → Turned p ended input at out filled out (staying p false at filled)
+  close-full short = turned-full short within room false (ap isOver (sym (idles .stage)))
+
+  -- a record may yet come
+  pub close-waits : Turned p false input at out filled out (staying p false at filled)
+  unfolding moveOf
+  close-waits =
+      elim (decLt (length out - filled) moveRoom) [
+        | yes short ↦ close-full short
+        | no enough ↦ turned-none
+            (idle (ap (λ (s : Stage). moveAt s p false (nextRecord (drop at input))) (idles .stage) ∙ waits-record p (nextRecord (drop at input)) (idles .none (omega arith))))
+            within room false (ap isOver (sym (idles .stage)))
+      ]
+
+  -- "Input that stops inside a record or its length prints `cut` before the last line"
+  pub close-ends : {cut : Bool} {after : List ℕ} {next : ℕ} → moveRoom ≤ length out - filled → cut ≡ ltb at (length input)
+      → Lays out filled (closing cut (record { accepted = p .accepted; refused = p .refused })) after next
+      → Turned p true input at out filled after (staying (finished p) true (length input) next)
+  unfolding moveOf
+  close-ends {cut} enough is lays =
+      let next = next-left (drop at input) (idles .none enough) ∙ ap (λ (b : Bool). cond b stops end) (sym (is ∙ left-after input at)) in
+      turned-last room enough ((λ i. moveAt (idles .stage i) p true (next i)) ∙ last-lines p cut) lays
+
+module _ {p : Player} {input out : List ℕ} (stage : p .stage ≡ Stage.Script) where
+  -- the script may yet come
+  pub opening-waits : NoWhole (nextRecord input) → Turned p false input 0 out 0 out (staying p false 0 0)
+  unfolding moveOf
+  opening-waits none =
+      turned-none (idle (ap (λ (s : Stage). moveAt s p false (nextRecord input)) stage ∙ waits-script p (nextRecord input) none)) (omega arith) (omega arith) false (ap isOver (sym stage))
+
+  -- "input that stops before the whole script is there prints `cut` and nothing else"
+  pub opening-cut : {after : List ℕ} {next : ℕ} → moveRoom ≤ length out → NoWhole (nextRecord input) → Lays out 0 cutLine after next
+      → Turned p true input 0 out 0 after (staying (finished p) true (length input) next)
+  unfolding moveOf
+  opening-cut room none lays =
+      turned-last (omega arith) (omega arith) (ap (λ (s : Stage). moveAt s p true (nextRecord input)) stage ∙ cut-script p (nextRecord input) none) lays
+
+  -- the script is there: its line, and then a turn of the player that has it
+  pub opening-goes : {ended : Bool} {size : ℕ} {q : Player} {mid after : List ℕ} {next : ℕ} {t : Turn} → moveRoom ≤ length out → Framed input 0 (Record.Whole size)
+      → q ≡ openedBy p (take size (drop 2 input)) (scriptOf (take size (drop 2 input))) → Lays out 0 (openingLine (scriptOf (take size (drop 2 input)))) mid next
+      → Turned q ended input (2 + size) mid next after t → Turned p ended input 0 out 0 after t
+  unfolding moveOf
+  opening-goes {ended} {size} room framed is lays later =
+      let next = sym (framed .next) in
+      turned-after (omega arith) (omega arith)
+      ((λ i. moveAt (stage i) p ended (next i))
+      ∙ ap (λ (x : Player). says (openingLine (scriptOf (take size (drop 2 input)))) x (drop (2 + size) input)) (sym is))
+      lays later
+
+-- how far a turn has come: whatever turn follows from here is one from the start
+pub record Going (p : Player) (ended : Bool) (input : List ℕ) (from : ℕ) (out : List ℕ) (start : ℕ) (q : Player) (at : ℕ) (held : List ℕ) (filled : ℕ) : Type 0 where
+  pub onto : (after : List ℕ) (t : Turn) → Turned q ended input at held filled after t → Turned p ended input from out start after t
+  pub within : at ≤ length input
+  pub room : filled ≤ length held
+
+module _ {p : Player} {ended : Bool} {input : List ℕ} {from : ℕ} {out : List ℕ} {start : ℕ} where
+  -- no record is played yet
+  pub going-none : p .stage ≡ Stage.Steps → from ≤ length input → start ≤ length out
+      → Going p ended input from out start
+      (record { stage = Stage.Steps; texts = p .texts; sizes = p .sizes; monitor = p .monitor; accepted = p .accepted; refused = p .refused }) from out start
+  going-none stage within room =
+      record {
+        onto = λ after t turned.
+            subst (λ (s : Stage). Turned (record { stage = s; texts = p .texts; sizes = p .sizes; monitor = p .monitor; accepted = p .accepted; refused = p .refused }) ended input from out start after t)
+            (sym stage) turned;
+        within = within;
+        room = room;
+      }
+
+  module _ {q : Player} {at : ℕ} {held : List ℕ} {filled : ℕ} (going : Going p ended input from out start q at held filled) where
+    -- one record more
+    pub going-more : {size next : ℕ} {after : List ℕ} {s : Stepped} → q .stage ≡ Stage.Steps → moveRoom ≤ length held - filled → Framed input at (Record.Whole size)
+        → s ≡ stepOf (q .monitor) (take size (drop (at + 2) input)) → Lays held filled (replyLines (textKept (q .texts) (q .sizes)) s) after next
+        → Going p ended input from out start (onward q s) (at + 2 + size) after next
+    unfolding moveOf
+    going-more {size} {next} {after} {s} stage enough framed is lays =
+        let record-next = sym (framed .next) in
+        record {
+          onto = λ last t turned. going .onto last t
+              (turned-after (going .room) enough
+              ((λ i. moveAt (stage i) q ended (record-next i))
+              ∙ ap (λ (x : Stepped). says (replyLines (textKept (q .texts) (q .sizes)) x) (onward q x) (drop (at + 2 + size) input)) (sym is))
+              lays turned);
+          within = framed .ends;
+          room = omega (arith, lays .place, end-within (length held) filled (replyLines (textKept (q .texts) (q .sizes)) s) (going .room), lays-length lays);
+        }
