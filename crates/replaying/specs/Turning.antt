@@ -1,5 +1,5 @@
 -- A turn as the code takes it: record after record, and then the end.
-use mathlib.Core.Bool.{Bool, true, false, cond}
+use mathlib.Core.Bool.{Bool, true, false, not, cond}
 use mathlib.Core.List.{List, [], _∷_, _++_}
 use mathlib.Core.Path.{_≡_, refl, sym, _∙_, ap, subst}
 use Prim.Native.Nat.{ℕ, suc, _+_, _-_, _*_, _<_, _≤_}
@@ -138,51 +138,69 @@ last-lines : (p : Player) (cut : Bool) → stepMove p true (cond cut stops end) 
 last-lines p true = refl
 last-lines p false = refl
 
-module _ {p : Player} {input : List ℕ} {at : ℕ} {out : List ℕ} {filled : ℕ} (idles : Idle p input at (length out - filled)) (within : at ≤ length input) (room : filled ≤ length out) where
+-- an input that goes on
+goes-on : (ended : Bool) → not ended ≡ true → ended ≡ false
+goes-on true is = sym is
+goes-on false is = refl
+
+-- and one that has ended
+has-ended : (ended : Bool) → not ended ≡ false → ended ≡ true
+has-ended true is = refl
+has-ended false is = sym is
+
+module _ {p : Player} {input : List ℕ} {at : ℕ} {out : List ℕ} {filled : ℕ} (idles : Idle p input at (length out - filled)) (within : at ≤ length input) (room : filled ≤ length out)
+    {ended : Bool} {t : Turn} where
   -- there is no room for the last lines
-  pub close-full : {ended : Bool} → length out - filled < moveRoom → Turned p ended input at out filled out (staying p false at filled)
-  close-full short = turned-full short within room false (ap isOver (sym (idles .stage)))
+  pub close-full : length out - filled < moveRoom → t ≡ staying p false at filled → Turned p ended input at out filled out t
+  close-full short is = subst (Turned p ended input at out filled out) (sym is) (turned-full short within room false (ap isOver (sym (idles .stage))))
 
   -- a record may yet come
-  pub close-waits : Turned p false input at out filled out (staying p false at filled)
+  pub close-waits : not ended ≡ true → t ≡ staying p false at filled → Turned p ended input at out filled out t
   unfolding moveOf
-  close-waits =
+  close-waits more is =
       elim (decLt (length out - filled) moveRoom) [
-        | yes short ↦ close-full short
-        | no enough ↦ turned-none
-            (idle (ap (λ (s : Stage). moveAt s p false (nextRecord (drop at input))) (idles .stage) ∙ waits-record p (nextRecord (drop at input)) (idles .none (omega arith))))
-            within room false (ap isOver (sym (idles .stage)))
+        | yes short ↦ close-full short is
+        | no enough ↦
+            let waiting = (λ i. moveAt (idles .stage i) p (goes-on ended more i) (nextRecord (drop at input))) ∙ waits-record p (nextRecord (drop at input)) (idles .none (omega arith)) in
+            subst (Turned p ended input at out filled out) (sym is) (turned-none (idle waiting) within room false (ap isOver (sym (idles .stage))))
       ]
 
   -- "Input that stops inside a record or its length prints `cut` before the last line"
-  pub close-ends : {cut : Bool} {after : List ℕ} {next : ℕ} → moveRoom ≤ length out - filled → cut ≡ ltb at (length input)
-      → Lays out filled (closing cut (record { accepted = p .accepted; refused = p .refused })) after next
-      → Turned p true input at out filled after (staying (finished p) true (length input) next)
+  pub close-ends : {q : Player} {after : List ℕ} {next : ℕ} → not ended ≡ false → moveRoom ≤ length out - filled → q ≡ finished p
+      → Lays out filled (closing (ltb at (length input)) (record { accepted = p .accepted; refused = p .refused })) after next
+      → t ≡ staying q true (length input) next → Turned p ended input at out filled after t
   unfolding moveOf
-  close-ends {cut} enough is lays =
-      let next = next-left (drop at input) (idles .none enough) ∙ ap (λ (b : Bool). cond b stops end) (sym (is ∙ left-after input at)) in
-      turned-last room enough ((λ i. moveAt (idles .stage i) p true (next i)) ∙ last-lines p cut) lays
+  close-ends {q} {after} {next} none enough over lays is =
+      let left = next-left (drop at input) (idles .none enough) ∙ ap (λ (b : Bool). cond b stops end) (sym (left-after input at)) in
+      let last = (λ i. moveAt (idles .stage i) p (has-ended ended none i) (left i)) ∙ last-lines p (ltb at (length input)) in
+      subst (Turned p ended input at out filled after) (sym (is ∙ ap (λ (x : Player). staying x true (length input) next) over)) (turned-last room enough last lays)
 
-module _ {p : Player} {input out : List ℕ} (stage : p .stage ≡ Stage.Script) where
+module _ {p : Player} {input out : List ℕ} (stage : p .stage ≡ Stage.Script) {ended : Bool} {t : Turn} where
+  -- there is no room for the script's line
+  pub opening-full : length out < moveRoom → t ≡ staying p false 0 0 → Turned p ended input 0 out 0 out t
+  opening-full short is = subst (Turned p ended input 0 out 0 out) (sym is) (turned-full (omega arith) (omega arith) (omega arith) false (ap isOver (sym stage)))
+
   -- the script may yet come
-  pub opening-waits : NoWhole (nextRecord input) → Turned p false input 0 out 0 out (staying p false 0 0)
+  pub opening-waits : NoWhole (nextRecord input) → not ended ≡ true → t ≡ staying p false 0 0 → Turned p ended input 0 out 0 out t
   unfolding moveOf
-  opening-waits none =
-      turned-none (idle (ap (λ (s : Stage). moveAt s p false (nextRecord input)) stage ∙ waits-script p (nextRecord input) none)) (omega arith) (omega arith) false (ap isOver (sym stage))
+  opening-waits none more is =
+      let waiting = (λ i. moveAt (stage i) p (goes-on ended more i) (nextRecord input)) ∙ waits-script p (nextRecord input) none in
+      subst (Turned p ended input 0 out 0 out) (sym is) (turned-none (idle waiting) (omega arith) (omega arith) false (ap isOver (sym stage)))
 
   -- "input that stops before the whole script is there prints `cut` and nothing else"
-  pub opening-cut : {after : List ℕ} {next : ℕ} → moveRoom ≤ length out → NoWhole (nextRecord input) → Lays out 0 cutLine after next
-      → Turned p true input 0 out 0 after (staying (finished p) true (length input) next)
+  pub opening-cut : {q : Player} {after : List ℕ} {next : ℕ} → NoWhole (nextRecord input) → not ended ≡ false → moveRoom ≤ length out → q ≡ finished p
+      → Lays out 0 cutLine after next → t ≡ staying q true (length input) next → Turned p ended input 0 out 0 after t
   unfolding moveOf
-  opening-cut room none lays =
-      turned-last (omega arith) (omega arith) (ap (λ (s : Stage). moveAt s p true (nextRecord input)) stage ∙ cut-script p (nextRecord input) none) lays
+  opening-cut {q} {after} {next} none over room finishes lays is =
+      let last = (λ i. moveAt (stage i) p (has-ended ended over i) (nextRecord input)) ∙ cut-script p (nextRecord input) none in
+      subst (Turned p ended input 0 out 0 after) (sym (is ∙ ap (λ (x : Player). staying x true (length input) next) finishes)) (turned-last (omega arith) (omega arith) last lays)
 
   -- the script is there: its line, and then a turn of the player that has it
-  pub opening-goes : {ended : Bool} {size : ℕ} {q : Player} {mid after : List ℕ} {next : ℕ} {t : Turn} → moveRoom ≤ length out → Framed input 0 (Record.Whole size)
+  pub opening-goes : {size : ℕ} {q : Player} {mid after : List ℕ} {next : ℕ} → moveRoom ≤ length out → Framed input 0 (Record.Whole size)
       → q ≡ openedBy p (take size (drop 2 input)) (scriptOf (take size (drop 2 input))) → Lays out 0 (openingLine (scriptOf (take size (drop 2 input)))) mid next
       → Turned q ended input (2 + size) mid next after t → Turned p ended input 0 out 0 after t
   unfolding moveOf
-  opening-goes {ended} {size} room framed is lays later =
+  opening-goes {size} room framed is lays later =
       let next = sym (framed .next) in
       turned-after (omega arith) (omega arith)
       ((λ i. moveAt (stage i) p ended (next i))
