@@ -149,7 +149,13 @@ fn last_line(out: &mut [u8], at: usize, accepted: u64, refused: u64) -> usize
 }
 
 // "Input that stops inside a record or its length prints `cut` before the last line"
-pub(crate) fn closing_lines(out: &mut [u8], at: usize, cut: bool, accepted: u64, refused: u64) -> usize
+pub(crate) fn closing_lines(
+    out: &mut [u8],
+    at: usize,
+    cut: bool,
+    accepted: u64,
+    refused: u64,
+) -> usize
     ensures { λ r. ⌜ Lays (now (out .entry)) at (closing cut (record { accepted = accepted; refused = refused })) (now (out .exit)) r ⌝ }
 {
     if cut {
