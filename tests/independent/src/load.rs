@@ -1,0 +1,108 @@
+//! The hostile load: long streams of mostly damaged or random records, and many short random streams.
+
+use crate::compare::{compare_stream, Repeat};
+use crate::damage::damaged;
+use crate::draft::{record, ScriptDraft};
+use crate::figures::Figures;
+use crate::generate::Made;
+use crate::options::Options;
+use crate::random::Random;
+use crate::scripts;
+use crate::steps::StepMaker;
+use std::time::Instant;
+
+pub fn run(options: &Options) -> Result<(), String> {
+    let started = Instant::now();
+    let mut figures = Figures::default();
+    let mut number = 0;
+    let mut short = 0;
+    while figures.records < options.records {
+        let made = made(options.seed, number);
+        short += u64::from(is_short(number));
+        let repeat = Repeat { options, number, command: " --load" };
+        compare_stream(&made, &repeat, &mut figures)?;
+        number += 1;
+    }
+    println!(
+        "load: {} records behind accepted scripts, {short} short random streams of {number}; {}, \
+         0 differ ({:.1} s, seed {})",
+        figures.records,
+        figures.shown(),
+        started.elapsed().as_secs_f64(),
+        options.seed
+    );
+    Ok(())
+}
+
+/// Nine streams of ten are short and random.
+fn is_short(number: u64) -> bool {
+    number % 10 != 0
+}
+
+/// A stream of the load, by its seed and number.
+pub fn made(seed: u64, number: u64) -> Made {
+    let random = &mut Random::of_stream(seed ^ 0x10AD, number);
+    if is_short(number) {
+        return random_stream(random);
+    }
+    long_stream(random)
+}
+
+/// Random bytes; of some, the first ones are such that reading gets further.
+fn random_stream(random: &mut Random) -> Made {
+    let length = random.pick(&[1, 4, 16, 64, 256, 4200]);
+    let length = random.below(length + 1);
+    let mut script = random.bytes(length);
+    for (byte, good) in script.iter_mut().zip([1, 1 + random.below(128) as u8]) {
+        if random.chance(80) {
+            *byte = good;
+        }
+    }
+    let mut bytes = record(&script);
+    if random.chance(30) {
+        bytes = script.clone();
+    }
+    let behind = random.below(30);
+    bytes.extend(random.bytes(behind));
+    Made { script, bytes }
+}
+
+/// Several thousand records, of which some hundreds at most are accepted.
+fn long_stream(random: &mut Random) -> Made {
+    let most = random.pick(&[20, 40, 128]);
+    let table = scripts::table(random, most);
+    let script = ScriptDraft::of(&table).pack();
+    let mut bytes = record(&script);
+    let count = 2000 + random.below(4000);
+    let mut accepted = 300;
+    let mut steps = StepMaker::new(random, &table.imports, 0);
+    let good = steps.next();
+    for _ in 0..count {
+        if accepted > 0 && steps.random.chance(6) {
+            accepted -= 1;
+            bytes.extend(record(&steps.next()));
+        }
+        bytes.extend(record(&hostile_record(steps.random, &good)));
+    }
+    let kept = if random.chance(50) { bytes.len() - random.below(bytes.len() / 4) } else { bytes.len() };
+    bytes.truncate(kept);
+    Made { script: damaged(random, script), bytes }
+}
+
+/// A record that is damaged, random, empty or far too long.
+fn hostile_record(random: &mut Random, good: &[u8]) -> Vec<u8> {
+    match random.below(100) {
+        0 => Vec::new(),
+        1 if random.chance(6) => random.bytes(0xFFFF),
+        2 if random.chance(6) => {
+            let mut long = good.to_vec();
+            long.resize(0xFFFF, 0);
+            long
+        }
+        3..=40 => damaged(random, good.to_vec()),
+        _ => {
+            let length = random.below(24);
+            random.bytes(length)
+        }
+    }
+}

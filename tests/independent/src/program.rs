@@ -1,0 +1,80 @@
+//! Running a compiled program on some bytes, and comparing what it prints with the second reading.
+
+use std::io::Write;
+use std::process::{Command, Stdio};
+
+/// A program and the words put before it (a memory checker, say).
+#[derive(Clone)]
+pub struct Program {
+    words: Vec<String>,
+}
+
+/// What a run came to.
+pub struct Run {
+    pub output: Vec<u8>,
+    /// What is wrong with the run itself: its status or its standard error.
+    pub trouble: Option<String>,
+}
+
+impl Program {
+    pub fn new(before: &[String], path: &str) -> Self {
+        let mut words = before.to_vec();
+        words.push(path.to_string());
+        Program { words }
+    }
+
+    /// The words of the command, as one would type them.
+    pub fn shown(&self) -> String {
+        self.words.join(" ")
+    }
+
+    /// Input is written while output is read, so that neither pipe can fill up and stop both.
+    pub fn run(&self, input: &[u8]) -> Result<Run, String> {
+        let mut child = Command::new(&self.words[0])
+            .args(&self.words[1..])
+            .stdin(Stdio::piped())
+            .stdout(Stdio::piped())
+            .stderr(Stdio::piped())
+            .spawn()
+            .map_err(|error| format!("{} cannot be run: {error}", self.shown()))?;
+        let mut pipe = child.stdin.take().expect("standard input is a pipe");
+        let output = std::thread::scope(|scope| {
+            // A program may stop reading where nothing more can change its output.
+            scope.spawn(move || drop(pipe.write_all(input)));
+            child.wait_with_output()
+        });
+        let output = output.map_err(|error| format!("{}: {error}", self.shown()))?;
+        let stderr = String::from_utf8_lossy(&output.stderr);
+        let is_good = output.status.code() == Some(0) && stderr.is_empty();
+        let trouble = (!is_good).then(|| format!("{}, standard error: {stderr}", output.status));
+        Ok(Run { output: output.stdout, trouble })
+    }
+}
+
+/// The one comparison: every byte, the exit status and standard error. None where nothing differs.
+pub fn difference(expected: &[u8], run: &Run) -> Option<String> {
+    if let Some(trouble) = &run.trouble {
+        return Some(format!("the run itself: {trouble}"));
+    }
+    if expected == run.output {
+        return None;
+    }
+    let mut expected = expected.split_inclusive(|byte| *byte == b'\n');
+    let mut printed = run.output.split_inclusive(|byte| *byte == b'\n');
+    for line in 1.. {
+        let (one, other) = (expected.next(), printed.next());
+        if one != other {
+            let one = line_shown(one);
+            let other = line_shown(other);
+            return Some(format!("line {line}: the program {other}, the second reading {one}"));
+        }
+    }
+    None
+}
+
+fn line_shown(line: Option<&[u8]>) -> String {
+    match line {
+        Some(line) => format!("{:?}", String::from_utf8_lossy(line)),
+        None => "nothing".to_string(),
+    }
+}
