@@ -11,9 +11,14 @@ impl<'a> Bits<'a> {
         Bits { bytes, at: 0 }
     }
 
+    /// Whether so many more bits are there.
+    pub fn has(&self, width: usize) -> bool {
+        self.at + width <= self.bytes.len() * 8
+    }
+
     /// The next field of this width; none where it "isn't wholly there".
     pub fn take(&mut self, width: usize) -> Option<u64> {
-        if self.at + width > self.bytes.len() * 8 {
+        if !self.has(width) {
             return None;
         }
         let mut field = 0;

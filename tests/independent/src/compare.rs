@@ -62,12 +62,15 @@ pub struct Repeat<'a> {
 
 /// Both programs on one generated stream and its script.
 pub fn compare_stream(made: &Made, repeat: &Repeat, figures: &mut Figures) -> Result<(), String> {
+    let pieces = if repeat.number % 16 == 15 { 3 } else { 1 };
+    let replay = repeat.options.replay().in_pieces(pieces);
     let read = stream::read(&made.bytes, Mistake::None);
     let expected = lines::replayed(&read, Mistake::None);
-    compare_one(Which::Replay, &repeat.options.replay(), &made.bytes, &expected, repeat)?;
+    compare_one(Which::Replay, &replay, &made.bytes, &expected, repeat)?;
     figures.count_stream(&read, &expected);
+    let inspect = repeat.options.inspect().in_pieces(pieces);
     let expected = lines::inspect(&made.script, Mistake::None);
-    compare_one(Which::Inspect, &repeat.options.inspect(), &made.script, &expected, repeat)?;
+    compare_one(Which::Inspect, &inspect, &made.script, &expected, repeat)?;
     figures.count_output(&expected);
     Ok(())
 }
@@ -94,7 +97,7 @@ fn report(which: Which, program: &Program, input: &[u8], found: &str, repeat: &R
     let printed = program.run(&short).map(|run| run.output).unwrap_or_default();
     let script = if which == Which::Inspect { " --script" } else { "" };
     format!(
-        "{name} differs at seed {seed}, stream {number}\n  {found}\n\
+        "{name} differs at seed {seed}, stream {number}{pieces}\n  {found}\n\
          shortened to {length} bytes:\n{hex}\n\
          the program prints:\n{printed}the second reading:\n{expected}\
          again: printf {hex} | xxd -r -p | {program}\n\
@@ -102,6 +105,7 @@ fn report(which: Which, program: &Program, input: &[u8], found: &str, repeat: &R
         name = which.name(),
         seed = repeat.options.seed,
         number = repeat.number,
+        pieces = if repeat.number % 16 == 15 { " (its input came in three pieces)" } else { "" },
         length = short.len(),
         hex = hex.concat(),
         printed = String::from_utf8_lossy(&printed),

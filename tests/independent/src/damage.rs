@@ -1,6 +1,7 @@
 //! Damage to bytes as a radio link does it: bits turned round, bytes lost, bytes added, a cut.
 
 use crate::random::Random;
+use crate::stream::first_record;
 
 /// One to three such things done to the bytes.
 pub fn damaged(random: &mut Random, mut bytes: Vec<u8>) -> Vec<u8> {
@@ -25,4 +26,24 @@ fn once(random: &mut Random, bytes: &mut Vec<u8>) {
             bytes.splice(at..at, added);
         }
     }
+}
+
+/// A stream in which the length before a record, or before the script, is not the record's.
+pub fn wrong_length(random: &mut Random, mut bytes: Vec<u8>) -> Vec<u8> {
+    let mut places = vec![0];
+    let mut rest = &bytes[..];
+    while let Some((_, behind)) = first_record(rest) {
+        places.push(bytes.len() - behind.len());
+        rest = behind;
+    }
+    let place = random.pick(&places);
+    if let Some(length) = bytes.get_mut(place..place + 2) {
+        let wrong = match random.below(3) {
+            0 => length[1].wrapping_add(1),
+            1 => length[1].wrapping_sub(1),
+            _ => random.next() as u8,
+        };
+        length[usize::from(random.chance(85))] = wrong;
+    }
+    bytes
 }

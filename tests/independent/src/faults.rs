@@ -8,7 +8,7 @@ use crate::table::{Operand, KINDS};
 pub fn faulty(random: &mut Random, draft: &mut ScriptDraft) -> Vec<u8> {
     let mut bytes = None;
     for _ in 0..random.pick(&[1, 1, 2, 3]) {
-        let fault = random.below(17);
+        let fault = random.below(18);
         put(random, draft, fault);
         bytes = cut_or_long(random, draft, fault).or(bytes);
     }
@@ -28,7 +28,8 @@ fn put(random: &mut Random, draft: &mut ScriptDraft, fault: usize) {
         9 | 15 | 16 => draft.padding = random.next(),
         10 => long_label(random, draft),
         11 => bad_text(random, draft),
-        12 => draft.tail = random.bytes(1 + (fault & 1)),
+        12 => draft.tail = random.bytes(2),
+        17 => cut_operand(random, draft),
         _ => {}
     }
 }
@@ -61,14 +62,39 @@ fn undefined_start(random: &mut Random, draft: &mut ScriptDraft) {
 
 /// 6: "kind 25 to 31"
 fn unknown_kind(random: &mut Random, draft: &mut ScriptDraft) {
+    if draft.entries.is_empty() {
+        return;
+    }
     let at = random.below(draft.entries.len());
     draft.entries[at][0].0 = 25 + random.below(7) as u64;
 }
 
 /// 7 and 8: an operand that names something else than it did; now and then two of one entry.
 fn operand(random: &mut Random, draft: &mut ScriptDraft) {
-    let count = draft.entries.len();
-    let at = random.below(count);
+    if draft.entries.is_empty() {
+        return;
+    }
+    let at = random.below(draft.entries.len());
+    operand_of(random, draft, at);
+}
+
+/// The last operand of an entry is cut off, and another of them is at fault: 2, 7 or 8.
+fn cut_operand(random: &mut Random, draft: &mut ScriptDraft) {
+    if draft.entries.is_empty() {
+        return;
+    }
+    let at = random.below(draft.entries.len());
+    operand_of(random, draft, at);
+    draft.entries.truncate(at + 1);
+    draft.entries[at].pop();
+    draft.labels.clear();
+    draft.tail.clear();
+    if draft.entries[at].is_empty() {
+        draft.entries.pop();
+    }
+}
+
+fn operand_of(random: &mut Random, draft: &mut ScriptDraft, at: usize) {
     let kind = draft.entries[at][0].0 as usize;
     let Some(kind) = KINDS.get(kind) else { return };
     let all = random.chance(30);
@@ -84,7 +110,9 @@ fn operand(random: &mut Random, draft: &mut ScriptDraft) {
             Operand::Constant => continue,
             _ => &[draft.imports.len(), 63, anything % (draft.imports.len() + 1)],
         };
-        draft.entries[at][place + 1].0 = random.pick(names) as u64;
+        if let Some(field) = draft.entries[at].get_mut(place + 1) {
+            field.0 = random.pick(names) as u64;
+        }
     }
 }
 

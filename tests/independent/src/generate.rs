@@ -1,6 +1,6 @@
 //! The stream of a seed and a number: valid, at the limits, damaged or hostile.
 
-use crate::damage::damaged;
+use crate::damage::{damaged, wrong_length};
 use crate::draft::{record, ScriptDraft};
 use crate::faults::faulty;
 use crate::limits;
@@ -59,7 +59,7 @@ fn stream(random: &mut Random, table: &Table, count: usize, faults: usize) -> Ma
 }
 
 /// A script with faults put in on purpose, and steps behind it.
-fn faulty_script(random: &mut Random) -> Made {
+pub fn faulty_script(random: &mut Random) -> Made {
     let most = 9 + random.below(30);
     let table = scripts::table(random, most);
     let script = faulty(random, &mut ScriptDraft::of(&table));
@@ -70,16 +70,20 @@ fn faulty_script(random: &mut Random) -> Made {
 }
 
 /// A stream as a bad link hands it on; the script for `inspect` is damaged by itself.
-fn damaged_stream(random: &mut Random) -> Made {
+pub fn damaged_stream(random: &mut Random) -> Made {
     let most = size(random);
     let table = scripts::table(random, most);
     let count = 1 + random.below(20);
-    let made = stream(random, &table, count, 5);
+    let mut made = stream(random, &table, count, 5);
+    if random.chance(30) {
+        made.bytes = wrong_length(random, made.bytes);
+        return made;
+    }
     Made { script: damaged(random, made.script), bytes: damaged(random, made.bytes) }
 }
 
 /// Random bytes: as a script, behind a good header, as records behind a good script, as lengths.
-fn hostile(random: &mut Random) -> Made {
+pub fn hostile(random: &mut Random) -> Made {
     let length = random.pick(&[3, 10, 40, 200, 1000]);
     let length = random.below(length);
     match random.below(4) {

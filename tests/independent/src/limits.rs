@@ -26,8 +26,7 @@ pub fn made(random: &mut Random) -> Made {
 
 /// An empty input, one byte, a length alone, a script of no bytes.
 fn next_to_nothing(random: &mut Random) -> Made {
-    let choices: [&[u8]; 8] =
-        [&[], &[0], &[1], &[0, 0], &[0, 1], &[0, 0, 0], &[0, 0, 0, 0], &[0xFF, 0xFF]];
+    let choices: [&[u8]; 8] = [&[], &[0], &[1], &[0, 0], &[0, 1], &[0, 0, 0], &[0, 0, 0, 0], &[0xFF, 0xFF]];
     let bytes = random.pick(&choices).to_vec();
     let script = bytes.get(2..).unwrap_or(&[]).to_vec();
     Made { script, bytes }
@@ -176,13 +175,7 @@ fn deep(random: &mut Random) -> Made {
 
 /// 48 imports and 32 variables, all of them in use.
 fn every_import_and_variable(random: &mut Random) -> Made {
-    let mut table = scripts::table(random, 126);
-    while table.imports.len() < MOST_IMPORTS {
-        table.imports.push(random.chance(50));
-    }
-    while table.variables.len() < MOST_VARIABLES {
-        table.variables.push(random.chance(50).then(|| scripts::number(random)));
-    }
+    let mut table = scripts::table_over(random, 126, MOST_IMPORTS, MOST_VARIABLES);
     table.entries.push(Entry { kind: Kind::Variable, operands: [31, 0, 0] });
     let last = if table.imports[47] { Kind::EventImport } else { Kind::ConditionImport };
     table.entries.push(Entry { kind: last, operands: [47, 0, 0] });

@@ -4,7 +4,7 @@ use crate::compare::{compare_stream, Repeat};
 use crate::damage::damaged;
 use crate::draft::{record, ScriptDraft};
 use crate::figures::Figures;
-use crate::generate::Made;
+use crate::generate::{self, Made};
 use crate::options::Options;
 use crate::random::Random;
 use crate::scripts;
@@ -24,7 +24,7 @@ pub fn run(options: &Options) -> Result<(), String> {
         number += 1;
     }
     println!(
-        "load: {} records behind accepted scripts, {short} short random streams of {number}; {}, \
+        "load: {} records behind accepted scripts, {number} streams, {short} of them short; {}, \
          0 differ ({:.1} s, seed {})",
         figures.records,
         figures.shown(),
@@ -34,18 +34,23 @@ pub fn run(options: &Options) -> Result<(), String> {
     Ok(())
 }
 
-/// Nine streams of ten are short and random.
+/// Thirty-one streams of thirty-two are short.
 fn is_short(number: u64) -> bool {
-    number % 10 != 0
+    number % 32 != 0
 }
 
 /// A stream of the load, by its seed and number.
 pub fn made(seed: u64, number: u64) -> Made {
     let random = &mut Random::of_stream(seed ^ 0x10AD, number);
-    if is_short(number) {
-        return random_stream(random);
+    if !is_short(number) {
+        return long_stream(random);
     }
-    long_stream(random)
+    match number % 4 {
+        0 => generate::damaged_stream(random),
+        1 => generate::hostile(random),
+        2 => generate::faulty_script(random),
+        _ => random_stream(random),
+    }
 }
 
 /// Random bytes; of some, the first ones are such that reading gets further.
@@ -76,33 +81,44 @@ fn long_stream(random: &mut Random) -> Made {
     let count = 2000 + random.below(4000);
     let mut accepted = 300;
     let mut steps = StepMaker::new(random, &table.imports, 0);
-    let good = steps.next();
     for _ in 0..count {
         if accepted > 0 && steps.random.chance(6) {
             accepted -= 1;
             bytes.extend(record(&steps.next()));
         }
-        bytes.extend(record(&hostile_record(steps.random, &good)));
+        let good = steps.offered();
+        bytes.extend(record(&hostile_record(steps.random, good)));
     }
     let kept = if random.chance(50) { bytes.len() - random.below(bytes.len() / 4) } else { bytes.len() };
     bytes.truncate(kept);
     Made { script: damaged(random, script), bytes }
 }
 
-/// A record that is damaged, random, empty or far too long.
-fn hostile_record(random: &mut Random, good: &[u8]) -> Vec<u8> {
+/// A record that is damaged, random, empty or far too long. Most keep their time, so that they are judged
+/// further, and so that one that is accepted leaves room for the steps behind it.
+fn hostile_record(random: &mut Random, mut good: Vec<u8>) -> Vec<u8> {
     match random.below(100) {
         0 => Vec::new(),
-        1 if random.chance(6) => random.bytes(0xFFFF),
-        2 if random.chance(6) => {
-            let mut long = good.to_vec();
-            long.resize(0xFFFF, 0);
-            long
+        1 if random.chance(10) => random.bytes(0xFFFF),
+        2 if random.chance(10) => {
+            good.resize(0xFFFF, 0);
+            good
         }
-        3..=40 => damaged(random, good.to_vec()),
-        _ => {
+        3 if random.chance(4) => damaged(random, good),
+        4..=14 => {
             let length = random.below(24);
             random.bytes(length)
+        }
+        15..=60 => {
+            let behind = good.split_off(6);
+            good.extend(damaged(random, behind));
+            good
+        }
+        _ => {
+            let length = random.below(24);
+            good.truncate(6);
+            good.extend(random.bytes(length));
+            good
         }
     }
 }

@@ -2,8 +2,10 @@
 
 mod bits;
 mod compare;
+mod conditions;
 mod damage;
 mod draft;
+mod events;
 #[cfg(test)]
 mod examples;
 mod faults;
@@ -15,6 +17,7 @@ mod load;
 mod logic;
 mod mistake;
 mod mistakes;
+mod numbers;
 mod options;
 mod planted;
 mod program;

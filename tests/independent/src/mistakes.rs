@@ -17,10 +17,10 @@ pub fn run(options: &Options) -> Result<(), String> {
         if let Some(found) = both.differs(Mistake::None) {
             return Err(format!("stream {number} differs with no mistake planted: {found}"));
         }
-        hidden.retain(|mistake| {
+        hidden.retain(|(mistake, words)| {
             let found = both.differs(*mistake);
             if found.is_some() {
-                println!("{mistake:?}: found by stream {number}");
+                println!("stream {number} finds: {words}");
             }
             found.is_none()
         });
@@ -29,7 +29,8 @@ pub fn run(options: &Options) -> Result<(), String> {
             return Ok(());
         }
     }
-    Err(format!("not found in {bound} streams: {hidden:?}"))
+    let hidden: Vec<&str> = hidden.iter().map(|(_, words)| *words).collect();
+    Err(format!("not found in {bound} streams: {}", hidden.join("; ")))
 }
 
 /// What both programs print for one stream and its script.

@@ -1,12 +1,15 @@
 //! Running a compiled program on some bytes, and comparing what it prints with the second reading.
 
 use std::io::Write;
-use std::process::{Command, Stdio};
+use std::process::{ChildStdin, Command, Stdio};
+use std::time::Duration;
 
 /// A program and the words put before it (a memory checker, say).
 #[derive(Clone)]
 pub struct Program {
     words: Vec<String>,
+    /// In how many pieces its input is written, with a pause between them.
+    pieces: usize,
 }
 
 /// What a run came to.
@@ -20,7 +23,13 @@ impl Program {
     pub fn new(before: &[String], path: &str) -> Self {
         let mut words = before.to_vec();
         words.push(path.to_string());
-        Program { words }
+        Program { words, pieces: 1 }
+    }
+
+    /// The same program, whose input comes in pieces: a short read is not the end of the input.
+    pub fn in_pieces(mut self, pieces: usize) -> Self {
+        self.pieces = pieces;
+        self
     }
 
     /// The words of the command, as one would type them.
@@ -37,10 +46,9 @@ impl Program {
             .stderr(Stdio::piped())
             .spawn()
             .map_err(|error| format!("{} cannot be run: {error}", self.shown()))?;
-        let mut pipe = child.stdin.take().expect("standard input is a pipe");
+        let pipe = child.stdin.take().expect("standard input is a pipe");
         let output = std::thread::scope(|scope| {
-            // A program may stop reading where nothing more can change its output.
-            scope.spawn(move || drop(pipe.write_all(input)));
+            scope.spawn(move || feed(pipe, input, self.pieces));
             child.wait_with_output()
         });
         let output = output.map_err(|error| format!("{}: {error}", self.shown()))?;
@@ -48,6 +56,18 @@ impl Program {
         let is_good = output.status.code() == Some(0) && stderr.is_empty();
         let trouble = (!is_good).then(|| format!("{}, standard error: {stderr}", output.status));
         Ok(Run { output: output.stdout, trouble })
+    }
+}
+
+/// A program may stop reading where nothing more can change its output; that is no fault.
+fn feed(mut pipe: ChildStdin, input: &[u8], pieces: usize) {
+    for (number, piece) in input.chunks(input.len() / pieces + 1).enumerate() {
+        if number > 0 {
+            std::thread::sleep(Duration::from_millis(2));
+        }
+        if pipe.write_all(piece).is_err() {
+            return;
+        }
     }
 }
 

@@ -33,6 +33,9 @@ fn asks_for(table: &Table, number: usize, mistake: Mistake) -> Vec<usize> {
     if entry.kind == Kind::Variable {
         asked.extend(table.updates_of(entry.place(0)));
     }
+    if mistake == Mistake::ReachOfEverything {
+        asked.extend(0..number);
+    }
     if mistake == Mistake::ReachOfEarlierUpdatesOnly {
         asked.retain(|&other| other < number);
     }

@@ -14,13 +14,16 @@ pub fn read(bytes: &[u8], mistake: Mistake) -> Result<Table, Refusal> {
         return Err(1);
     }
     let mut bits = Bits::new(bytes);
+    if mistake == Mistake::HeaderJudgedWhole && bytes.len() < 4 {
+        return Err(2);
+    }
     let (entries, imports, variables) = header(&mut bits)?;
     let mut table = Table::default();
     for _ in 0..imports {
         table.imports.push(field(&mut bits, 1)? == 1);
     }
     for _ in 0..variables {
-        table.variables.push(variable(&mut bits)?);
+        table.variables.push(variable(&mut bits, mistake)?);
     }
     for _ in 0..entries {
         let entry = entry(&mut bits, &table, mistake)?;
@@ -63,13 +66,13 @@ fn header(bits: &mut Bits) -> Result<(u64, u64, u64), Refusal> {
 }
 
 /// "1 bit (1 = starts defined), then 48 bits, two's complement; all zero where it starts undefined"
-fn variable(bits: &mut Bits) -> Result<Option<i64>, Refusal> {
+fn variable(bits: &mut Bits, mistake: Mistake) -> Result<Option<i64>, Refusal> {
     let defined = field(bits, 1)? == 1;
     let start = field(bits, 48)?;
     if defined {
         return Ok(Some(number(start)));
     }
-    if start != 0 {
+    if start != 0 && mistake != Mistake::UndefinedStartNotJudged {
         return Err(5);
     }
     Ok(None)
@@ -79,6 +82,9 @@ fn variable(bits: &mut Bits) -> Result<Option<i64>, Refusal> {
 fn entry(bits: &mut Bits, table: &Table, mistake: Mistake) -> Result<Entry, Refusal> {
     let kind = field(bits, 5)? as usize;
     let kind = *KINDS.get(kind).ok_or(6)?;
+    if mistake == Mistake::OperandsJudgedTogether && !bits.has(widths(kind)) {
+        return Err(2);
+    }
     let mut operands = [0; 3];
     for (place, operand) in kind.operands().iter().enumerate() {
         let taken = field(bits, operand.width())?;
@@ -89,6 +95,11 @@ fn entry(bits: &mut Bits, table: &Table, mistake: Mistake) -> Result<Entry, Refu
         };
     }
     Ok(Entry { kind, operands })
+}
+
+/// The bits that the operands of a kind take, all of them together.
+fn widths(kind: Kind) -> usize {
+    kind.operands().iter().map(|operand| operand.width()).sum()
 }
 
 /// "operand by operand, 7 before 8"

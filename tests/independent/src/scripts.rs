@@ -12,9 +12,25 @@ pub struct ScriptMaker<'r> {
 
 /// A table that a script may hold, with at most so many entries.
 pub fn table(random: &mut Random, most: usize) -> Table {
+    let imports = few_or_many(random, 2, MOST_IMPORTS);
+    let variables = few_or_many(random, 1, MOST_VARIABLES);
+    table_over(random, most, imports, variables)
+}
+
+/// Mostly few, so that many entries name the same one.
+fn few_or_many(random: &mut Random, few: usize, most: usize) -> usize {
+    match random.below(20) {
+        0 => 0,
+        1 => random.below(most + 1),
+        _ => few + random.below(2 * few),
+    }
+}
+
+/// A table with so many imports and variables.
+pub fn table_over(random: &mut Random, most: usize, imports: usize, variables: usize) -> Table {
     let mut maker = ScriptMaker { random, table: Table::default(), most };
-    maker.imports();
-    maker.variables();
+    maker.imports(imports);
+    maker.variables(variables);
     while maker.room() >= 8 {
         maker.grow();
     }
@@ -41,22 +57,12 @@ impl ScriptMaker<'_> {
         self.most.saturating_sub(self.table.entries.len())
     }
 
-    fn imports(&mut self) {
-        let count = match self.random.below(20) {
-            0 => 0,
-            1 => self.random.below(MOST_IMPORTS + 1),
-            _ => 2 + self.random.below(4),
-        };
+    fn imports(&mut self, count: usize) {
         let events = self.random.pick(&[50, 50, 50, 0, 100]);
         self.table.imports = (0..count).map(|_| self.random.chance(events)).collect();
     }
 
-    fn variables(&mut self) {
-        let count = match self.random.below(20) {
-            0 => 0,
-            1 => self.random.below(MOST_VARIABLES + 1),
-            _ => 1 + self.random.below(3),
-        };
+    fn variables(&mut self, count: usize) {
         for _ in 0..count {
             let start = self.random.chance(60).then(|| number(self.random));
             self.table.variables.push(start);

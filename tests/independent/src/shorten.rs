@@ -70,7 +70,9 @@ impl Shortener<'_> {
 
     /// Leaves out runs of records: first half of them at once, at last one by one.
     fn drop_records(&mut self) {
-        let Some((_, rest)) = self.parts() else { return };
+        let Some((_, rest)) = self.parts() else {
+            return;
+        };
         let mut length = records(&rest).0.len();
         while length > 0 {
             let mut at = 0;
@@ -84,7 +86,9 @@ impl Shortener<'_> {
     /// Tries to leave out the records from `at` on, as often as it works; false behind the last record.
     fn without_records(&mut self, at: usize, length: usize) -> bool {
         loop {
-            let Some((script, rest)) = self.parts() else { return false };
+            let Some((script, rest)) = self.parts() else {
+                return false;
+            };
             let all = records(&rest).0;
             if at >= all.len() {
                 return false;
@@ -103,8 +107,12 @@ impl Shortener<'_> {
     /// Leaves out entries that no other entry names.
     fn drop_entries(&mut self) {
         for entry in (0..128).rev() {
-            let Some((table, rest)) = self.table() else { return };
-            let Some(smaller) = without_entry(&table, entry) else { continue };
+            let Some((table, rest)) = self.table() else {
+                return;
+            };
+            let Some(smaller) = without_entry(&table, entry) else {
+                continue;
+            };
             let candidate = self.joined(&ScriptDraft::of(&smaller).pack(), &rest);
             self.try_out(candidate);
         }
@@ -112,8 +120,12 @@ impl Shortener<'_> {
 
     fn drop_labels(&mut self) {
         for place in 0..128 {
-            let Some((mut table, rest)) = self.table() else { return };
-            let Some(label) = table.labels.get_mut(place) else { return };
+            let Some((mut table, rest)) = self.table() else {
+                return;
+            };
+            let Some(label) = table.labels.get_mut(place) else {
+                return;
+            };
             label.clear();
             let candidate = self.joined(&ScriptDraft::of(&table).pack(), &rest);
             self.try_out(candidate);

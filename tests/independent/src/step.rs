@@ -39,10 +39,14 @@ impl Judge<'_> {
     pub fn read(&self, bytes: &[u8], step: &mut Step) -> Result<(), Refusal> {
         let mut bits = Bits::new(bytes);
         step.time = field(&mut bits, 47)?;
-        if !self.is_later(step.time) {
+        let late = self.mistake == Mistake::TimeJudgedAfterCount;
+        if !late && !self.is_later(step.time) {
             return Err(22);
         }
         let count = field(&mut bits, 6)?;
+        if late && !self.is_later(step.time) {
+            return Err(22);
+        }
         let mut before = None;
         for _ in 0..count {
             let import = self.import(&mut bits, before)?;
@@ -106,7 +110,11 @@ impl Judge<'_> {
 
     /// "Zero bits up to a whole byte end it."
     fn end(&self, bits: &mut Bits) -> Result<(), Refusal> {
-        if bits.padding() != 0 && self.mistake != Mistake::StepPaddingNotJudged {
+        let padding = bits.padding();
+        if self.mistake == Mistake::StepPaddingJudgedLast && !bits.rest().is_empty() {
+            return Err(27);
+        }
+        if padding != 0 && self.mistake != Mistake::StepPaddingNotJudged {
             return Err(26);
         }
         if !bits.rest().is_empty() {

@@ -46,6 +46,12 @@ impl<'a> StepMaker<'a> {
         self.fault(draft)
     }
 
+    /// A step that comes next, without counting it as accepted.
+    pub fn offered(&mut self) -> Vec<u8> {
+        let at = self.time + self.random.below(4) as u64;
+        StepDraft::of(&self.step(at.min(LAST_TIME))).pack()
+    }
+
     /// Mostly later than the last, now and then equal or earlier.
     fn offered_time(&mut self) -> u64 {
         let step = match self.random.below(30) {
@@ -71,20 +77,38 @@ impl<'a> StepMaker<'a> {
     /// A step with a fault of its own, or with bytes damaged.
     fn fault(&mut self, mut draft: StepDraft) -> Vec<u8> {
         match self.random.below(12) {
-            0 => draft.padding = self.random.next(),
+            0 => self.padding(&mut draft),
             1 => draft.tail = vec![0; 1 + self.random.below(2)],
             2 => draft.tail = self.random.bytes(3),
             3 => draft.count = self.random.below(64) as u64,
             4 => self.foreign_import(&mut draft),
             5 => self.order(&mut draft),
             6 => self.fourth_truth(&mut draft),
-            7 => draft.time = self.random.below(3) as u64,
+            7 => return self.old_time(draft),
             8 => return Vec::new(),
             9 => return self.random.bytes(5).into_iter().chain(draft.pack()).collect(),
             10 => return crate::damage::damaged(self.random, draft.pack()),
             _ => return self.cut_short(draft),
         }
         draft.pack()
+    }
+
+    /// 26: bits behind the reports that are not zero; now and then bytes behind them too.
+    fn padding(&mut self, draft: &mut StepDraft) {
+        draft.padding = self.random.next();
+        if self.random.chance(30) {
+            draft.tail = vec![0];
+        }
+    }
+
+    /// 22: a time that is not later; often with nothing behind the time.
+    fn old_time(&mut self, mut draft: StepDraft) -> Vec<u8> {
+        draft.time = self.time.saturating_sub(self.random.below(3) as u64);
+        let mut bytes = draft.pack();
+        if self.random.chance(40) {
+            bytes.truncate(6);
+        }
+        bytes
     }
 
     /// 21: a field ends past the bytes.
@@ -109,7 +133,8 @@ impl<'a> StepMaker<'a> {
         }
         let again = self.random.below(draft.reports.len());
         let import = draft.reports[again][0].0;
-        let said: Field = if self.imports[import as usize] { (0, 1) } else { (self.random.below(3) as u64, 2) };
+        let said: Field =
+            if self.imports[import as usize] { (0, 1) } else { (self.random.below(3) as u64, 2) };
         let place = again + 1 + self.random.below(draft.reports.len() - again);
         draft.reports.insert(place, vec![(import, 6), said]);
         draft.count += 1;

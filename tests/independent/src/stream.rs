@@ -26,6 +26,9 @@ pub struct Recording {
 }
 
 pub fn read(bytes: &[u8], mistake: Mistake) -> Stream {
+    if mistake == Mistake::LongScriptBeforeCut && bytes.first().is_some_and(|high| *high > 16) {
+        return Stream::ScriptRefused(1);
+    }
     let Some((script, rest)) = first_record(bytes) else {
         return Stream::Cut;
     };

@@ -56,6 +56,9 @@ pub fn implies(a: Truth, b: Truth, mistake: Mistake) -> Truth {
 }
 
 /// [defined]: true if not undefined, false otherwise.
-pub fn defined(a: Truth) -> Truth {
+pub fn defined(a: Truth, mistake: Mistake) -> Truth {
+    if mistake == Mistake::DefinedOfUndefinedUndefined && a == Undefined {
+        return Undefined;
+    }
     known(a != Undefined)
 }
