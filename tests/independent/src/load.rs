@@ -16,15 +16,18 @@ pub fn run(options: &Options) -> Result<(), String> {
     let mut figures = Figures::default();
     let mut number = 0;
     let mut short = 0;
-    while figures.records < options.records {
+    let mut wholly_random = 0;
+    while options.wants_more(number, figures.records) {
         let made = made(options.seed, number);
         short += u64::from(is_short(number));
+        wholly_random += u64::from(is_random(number));
         let repeat = Repeat { options, number, command: " --load" };
         compare_stream(&made, &repeat, &mut figures)?;
         number += 1;
     }
     println!(
-        "load: {} records behind accepted scripts, {number} streams, {short} of them short; {}, \
+        "load: {} records behind accepted scripts, {number} streams, {short} of them short, \
+         {wholly_random} of these random bytes; {}, \
          0 differ ({:.1} s, seed {})",
         figures.records,
         figures.shown(),
@@ -37,6 +40,11 @@ pub fn run(options: &Options) -> Result<(), String> {
 /// Thirty-one streams of thirty-two are short.
 fn is_short(number: u64) -> bool {
     number % 32 != 0
+}
+
+/// A quarter of the short ones are random bytes; the others are damaged, hostile or have faults put in.
+fn is_random(number: u64) -> bool {
+    is_short(number) && number % 4 == 3
 }
 
 /// A stream of the load, by its seed and number.
@@ -53,15 +61,14 @@ pub fn made(seed: u64, number: u64) -> Made {
     }
 }
 
-/// Random bytes; of some, the first ones are such that reading gets further.
+/// Random bytes; of half of them the first two are such that reading gets further.
 fn random_stream(random: &mut Random) -> Made {
     let length = random.pick(&[1, 4, 16, 64, 256, 4200]);
     let length = random.below(length + 1);
     let mut script = random.bytes(length);
-    for (byte, good) in script.iter_mut().zip([1, 1 + random.below(128) as u8]) {
-        if random.chance(80) {
-            *byte = good;
-        }
+    if random.chance(50) {
+        let good = [1, 1 + random.below(128) as u8];
+        script.iter_mut().zip(good).for_each(|(byte, good)| *byte = good);
     }
     let mut bytes = record(&script);
     if random.chance(30) {

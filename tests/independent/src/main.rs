@@ -40,7 +40,7 @@ use std::process::ExitCode;
 const USAGE: &str = "independent replay [FILE] | inspect [FILE]
 independent compare --replay PATH --inspect PATH [--with WORDS] [--seed N] [--streams N | --seconds S]
 independent mistakes --replay PATH --inspect PATH [--seed N] [--streams N]
-independent load --replay PATH --inspect PATH [--with WORDS] [--seed N] [--records N]
+independent load --replay PATH --inspect PATH [--with WORDS] [--seed N] [--records N | --streams N]
 independent stream --seed N --number I [--script] [--load] [--out FILE]";
 
 fn main() -> ExitCode {

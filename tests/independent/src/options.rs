@@ -86,6 +86,14 @@ impl Options {
             (None, None) => number >= 2000,
         }
     }
+
+    /// Whether a load that has come so far goes on: up to a number of streams, or else of records.
+    pub fn wants_more(&self, streams: u64, records: u64) -> bool {
+        match self.streams {
+            Some(most) => streams < most,
+            None => records < self.records,
+        }
+    }
 }
 
 fn count(name: &str, value: &str) -> Result<u64, String> {

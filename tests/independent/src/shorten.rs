@@ -7,19 +7,22 @@ use crate::program::{difference, Program};
 use crate::script;
 use crate::stream::{first_record, records};
 use crate::table::{Operand, Table};
+use std::time::{Duration, Instant};
 
-/// Runs of the program at most.
-const TRIES: usize = 4000;
+/// The time that shortening may take, and one run of the program in it.
+const LIMIT: Duration = Duration::from_secs(60);
+const LIMIT_OF_RUN: Duration = Duration::from_secs(5);
 
-struct Shortener<'a> {
+struct Shortener {
     which: Which,
-    program: &'a Program,
+    program: Program,
     best: Vec<u8>,
-    tries: usize,
+    started: Instant,
 }
 
 pub fn shortened(which: Which, program: &Program, input: &[u8]) -> Vec<u8> {
-    let mut shortener = Shortener { which, program, best: input.to_vec(), tries: 0 };
+    let program = program.clone().within(LIMIT_OF_RUN);
+    let mut shortener = Shortener { which, program, best: input.to_vec(), started: Instant::now() };
     loop {
         let before = shortener.best.clone();
         shortener.drop_records();
@@ -27,19 +30,22 @@ pub fn shortened(which: Which, program: &Program, input: &[u8]) -> Vec<u8> {
         shortener.drop_labels();
         shortener.drop_bytes();
         shortener.zero_bytes();
-        if shortener.best == before || shortener.tries >= TRIES {
+        if shortener.best == before || shortener.is_over() {
             return shortener.best;
         }
     }
 }
 
-impl Shortener<'_> {
+impl Shortener {
+    fn is_over(&self) -> bool {
+        self.started.elapsed() >= LIMIT
+    }
+
     /// Takes the candidate if it is another one that still differs.
     fn try_out(&mut self, candidate: Vec<u8>) -> bool {
-        if candidate == self.best || self.tries >= TRIES {
+        if candidate == self.best || self.is_over() {
             return false;
         }
-        self.tries += 1;
         let Ok(run) = self.program.run(&candidate) else {
             return false;
         };
