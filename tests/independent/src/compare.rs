@@ -94,7 +94,8 @@ fn report(which: Which, program: &Program, input: &[u8], found: &str, repeat: &R
     let short = shorten::shortened(which, program, input);
     let hex: Vec<String> = short.iter().map(|byte| format!("{byte:02x}")).collect();
     let expected = which.expected(&short);
-    let printed = program.run(&short).map(|run| run.output).unwrap_or_default();
+    let printed =
+        program.clone().within(shorten::LIMIT_OF_RUN).run(&short).map(|run| run.output).unwrap_or_default();
     let script = if which == Which::Inspect { " --script" } else { "" };
     format!(
         "{name} differs at seed {seed}, stream {number}{pieces}\n  {found}\n\

@@ -8,7 +8,7 @@ use crate::table::{Operand, KINDS};
 pub fn faulty(random: &mut Random, draft: &mut ScriptDraft) -> Vec<u8> {
     let mut bytes = None;
     for _ in 0..random.pick(&[1, 1, 2, 3]) {
-        let fault = random.below(18);
+        let fault = random.below(20);
         put(random, draft, fault);
         bytes = cut_or_long(random, draft, fault).or(bytes);
     }
@@ -26,8 +26,8 @@ fn put(random: &mut Random, draft: &mut ScriptDraft, fault: usize) {
         6 => unknown_kind(random, draft),
         7 | 8 => operand(random, draft),
         9 | 15 | 16 => draft.padding = random.next(),
-        10 => long_label(random, draft),
-        11 => bad_text(random, draft),
+        10 | 18 => long_label(random, draft),
+        11 | 19 => bad_text(random, draft),
         12 => draft.tail = random.bytes(2),
         17 => cut_operand(random, draft),
         _ => {}
@@ -62,39 +62,29 @@ fn undefined_start(random: &mut Random, draft: &mut ScriptDraft) {
 
 /// 6: "kind 25 to 31"
 fn unknown_kind(random: &mut Random, draft: &mut ScriptDraft) {
-    if draft.entries.is_empty() {
-        return;
-    }
     let at = random.below(draft.entries.len());
     draft.entries[at][0].0 = 25 + random.below(7) as u64;
 }
 
-/// 7 and 8: an operand that names something else than it did; now and then two of one entry.
-fn operand(random: &mut Random, draft: &mut ScriptDraft) {
-    if draft.entries.is_empty() {
-        return;
-    }
-    let at = random.below(draft.entries.len());
-    operand_of(random, draft, at);
-}
-
-/// The last operand of an entry is cut off, and another of them is at fault: 2, 7 or 8.
+/// The last operand of an entry is cut off, and its first is at fault: 7 or 8, though a field is not there.
 fn cut_operand(random: &mut Random, draft: &mut ScriptDraft) {
-    if draft.entries.is_empty() {
+    let entries = draft.entries.iter().enumerate();
+    let with_two: Vec<usize> = entries.filter(|(_, fields)| fields.len() > 2).map(|(at, _)| at).collect();
+    if with_two.is_empty() {
         return;
     }
-    let at = random.below(draft.entries.len());
-    operand_of(random, draft, at);
+    let at = random.pick(&with_two);
+    let earlier = random.below(at + 1);
+    draft.entries[at][1].0 = random.pick(&[at, earlier]) as u64;
     draft.entries.truncate(at + 1);
     draft.entries[at].pop();
     draft.labels.clear();
     draft.tail.clear();
-    if draft.entries[at].is_empty() {
-        draft.entries.pop();
-    }
 }
 
-fn operand_of(random: &mut Random, draft: &mut ScriptDraft, at: usize) {
+/// 7 and 8: an operand that names something else than it did; now and then two of one entry.
+fn operand(random: &mut Random, draft: &mut ScriptDraft) {
+    let at = random.below(draft.entries.len());
     let kind = draft.entries[at][0].0 as usize;
     let Some(kind) = KINDS.get(kind) else { return };
     let all = random.chance(30);

@@ -2,6 +2,7 @@
 
 use crate::mistake::Mistake;
 use crate::step::{Report, Step};
+use crate::table::MOST_IMPORTS;
 use crate::truth::Truth;
 
 pub struct Planted {
@@ -22,9 +23,13 @@ impl Planted {
         }
     }
 
+    /// Keeps what was read of a refused step: of the conditions, what they were reported to be.
     pub fn refused(&mut self, mut step: Step, imports: &[bool]) {
+        if self.mistake == Mistake::None {
+            return;
+        }
         if self.mistake == Mistake::RefusedStepForgetsReports {
-            step.reports = [Some(Report::Condition(Truth::Undefined)); 48];
+            step.reports = [Some(Report::Condition(Truth::Undefined)); MOST_IMPORTS];
         }
         for (report, is_event) in step.reports.iter_mut().zip(imports) {
             if *is_event {
@@ -32,9 +37,7 @@ impl Planted {
             }
         }
         step.reports.iter_mut().skip(imports.len()).for_each(|report| *report = None);
-        if self.mistake != Mistake::None {
-            self.refused = Some(step);
-        }
+        self.refused = Some(step);
     }
 
     /// The step as it enters the history.

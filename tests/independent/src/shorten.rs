@@ -11,7 +11,7 @@ use std::time::{Duration, Instant};
 
 /// The time that shortening may take, and one run of the program in it.
 const LIMIT: Duration = Duration::from_secs(60);
-const LIMIT_OF_RUN: Duration = Duration::from_secs(5);
+pub const LIMIT_OF_RUN: Duration = Duration::from_secs(5);
 
 struct Shortener {
     which: Which,
