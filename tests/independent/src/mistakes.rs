@@ -1,5 +1,7 @@
 //! To see that the comparison can fail: each likely mistake, planted by itself, has to be found by it.
 
+use crate::compare::{compare_stream, Repeat};
+use crate::figures::Figures;
 use crate::generate;
 use crate::lines;
 use crate::mistake::{Mistake, MISTAKES};
@@ -15,7 +17,10 @@ pub fn run(options: &Options) -> Result<(), String> {
     for number in 0..bound {
         let both = Both::of_stream(options, number)?;
         if let Some(found) = both.differs(Mistake::None) {
-            return Err(format!("stream {number} differs with no mistake planted: {found}"));
+            // The comparison says it at length.
+            let repeat = Repeat { options, number, command: "" };
+            compare_stream(&both.made, &repeat, &mut Figures::default())?;
+            return Err(format!("stream {number} differed once with no mistake planted: {found}"));
         }
         hidden.retain(|(mistake, words)| {
             let found = both.differs(*mistake);
