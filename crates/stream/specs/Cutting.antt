@@ -7,7 +7,7 @@ use native.Mathlib.Nat.{not-suc-le-zero}
 use native.Mathlib.Decide.{decLe}
 use native.Mathlib.Omega.{arith}
 use borrow.Author.Tests.{le-leb, lt-leb}
-use lib.ListN.{length, take, drop, length-append, take-append-drop}
+use lib.ListN.{length, getD, take, drop, length-append, take-append-drop}
 use lib.Seq.{length-take-le, take-at, drop-at}
 use Rattle.stream.specs.Records.{Next, end, stops, whole, nextOf, nextRecord, Recorded, behind, recordsTo, recordsOf}
 
@@ -110,3 +110,17 @@ records-end input e = ap (recordsBy (recordsTo (length input))) e
 pub records-stops : (input : List ℕ) → nextRecord input ≡ stops → recordsOf input ≡ record { records = []; cut = true }
 unfolding recordsTo recordsOf
 records-stops input e = ap (recordsBy (recordsTo (length input))) e
+
+-- the longest record, and its length: "a 16-bit length"
+abbrev pub longest : ℕ
+longest = 2 + 65_535
+
+-- as many bytes begin with a whole record
+pub long-begins : (input : List ℕ) → longest ≤ length input → ((i : ℕ) → i < length input → getD input i 0 < 256)
+    → (bytes : List ℕ) × (rest : List ℕ) × (nextRecord input ≡ whole bytes rest)
+unfolding nextRecord
+long-begins [] long small = absurd (omega arith)
+long-begins (high ∷ []) long small = absurd (omega arith)
+long-begins (high ∷ low ∷ later) long small =
+    let size = high * 256 + low in
+    (take size later, drop size later, rw (le-leb size (length later) (omega (arith, small 0 (omega arith), small 1 (omega arith)))))
