@@ -1,7 +1,7 @@
 -- How a stream goes on after a whole record.
 use mathlib.Core.Bool.{true, false}
 use mathlib.Core.List.{List, [], _∷_, _++_, append-assoc}
-use mathlib.Core.Path.{_≡_, refl, sym, _∙_, ap}
+use mathlib.Core.Path.{_≡_, refl, sym, _∙_, ap, subst}
 use Prim.Native.Nat.{ℕ, zero, suc, _+_, _*_, _<_, _≤_}
 use native.Mathlib.Nat.{not-suc-le-zero}
 use native.Mathlib.Decide.{decLe}
@@ -110,6 +110,18 @@ records-end input e = ap (recordsBy (recordsTo (length input))) e
 pub records-stops : (input : List ℕ) → nextRecord input ≡ stops → recordsOf input ≡ record { records = []; cut = true }
 unfolding recordsTo recordsOf
 records-stops input e = ap (recordsBy (recordsTo (length input))) e
+
+-- what holds in each of the three cases holds of the records of an input
+pub by-next : (P : Recorded → Type 0) (input : List ℕ) → (nextRecord input ≡ end → P (record { records = []; cut = false }))
+    → (nextRecord input ≡ stops → P (record { records = []; cut = true }))
+    → ((bytes rest : List ℕ) → nextRecord input ≡ whole bytes rest → P (behind bytes (recordsOf rest))) → P (recordsOf input)
+by-next P input ended stopped more =
+    elim (nextRecord input) as (λ next. nextRecord input ≡ next → P (recordsOf input)) [
+      | end ↦ λ e. subst P (sym (records-end input e)) (ended e)
+      | stops ↦ λ e. subst P (sym (records-stops input e)) (stopped e)
+      | whole bytes rest ↦ λ e. subst P (sym (records-whole input e)) (more bytes rest e)
+    ]
+    refl
 
 -- the longest record, and its length: "a 16-bit length"
 abbrev pub longest : ℕ
