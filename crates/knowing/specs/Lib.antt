@@ -11,3 +11,4 @@ pub mod Knowing
 pub mod Arriving
 pub mod Ranges
 pub mod Staying
+pub mod Answering
