@@ -12,6 +12,7 @@ use lib.Seq.{drop-length}
 use Rattle.bits.specs.Reading.{Got}
 use Rattle.table.specs.declared.Table.{Table}
 use Rattle.script.specs.Reader.{scriptOf}
+use Rattle.monitor.specs.declared.Monitor.{Monitor}
 use Rattle.monitor.specs.declared.Stepped.{Stepped}
 use Rattle.monitor.specs.Stepping.{stepOf}
 use Rattle.lines.specs.Laying.{endOf, Lays, lays-none, lays-then, lays-length, end-within}
@@ -22,7 +23,7 @@ use Rattle.replaying.specs.declared.Stage.{Stage}
 use Rattle.replaying.specs.declared.Player.{Player}
 use Rattle.replaying.specs.declared.Turn.{Turn}
 use Rattle.replaying.specs.declared.framing.Record.{Record}
-use Rattle.replaying.specs.Moving.{textKept, replyLines, onward, finished, openingLine, openedBy, Move, waits, says, scriptMove, stepMove, moveAt, moveOf, moveRoom, Moves, full, idle, move, isOver, Turned}
+use Rattle.replaying.specs.Moving.{textKept, replyLines, acceptedAfter, refusedAfter, onward, finished, openingLine, openedBy, Move, waits, says, scriptMove, stepMove, moveAt, moveOf, moveRoom, Moves, full, idle, move, isOver, Turned}
 use Rattle.replaying.specs.Framing.{nextIn, Framed}
 
 -- no whole record comes next
@@ -138,6 +139,10 @@ last-lines : (p : Player) (cut : Bool) → stepMove p true (cond cut stops end) 
 last-lines p true = refl
 last-lines p false = refl
 
+-- the bytes from a place up to another one
+part-of : (input : List ℕ) (at size : ℕ) → take (at + size - at) (drop at input) ≡ take size (drop at input)
+part-of input at size = ap (λ (n : ℕ). take n (drop at input)) {x = at + size - at} {y = size} (omega arith)
+
 -- an input that goes on
 goes-on : (ended : Bool) → not ended ≡ true → ended ≡ false
 goes-on true is = sym is
@@ -197,14 +202,17 @@ module _ {p : Player} {input out : List ℕ} (stage : p .stage ≡ Stage.Script)
 
   -- the script is there: its line, and then a turn of the player that has it
   pub opening-goes : {size : ℕ} {q : Player} {mid after : List ℕ} {next : ℕ} → moveRoom ≤ length out → Framed input 0 (Record.Whole size)
-      → q ≡ openedBy p (take size (drop 2 input)) (scriptOf (take size (drop 2 input))) → Lays out 0 (openingLine (scriptOf (take size (drop 2 input)))) mid next
+      → q ≡ openedBy p (take (2 + size - 2) (drop 2 input)) (scriptOf (take (2 + size - 2) (drop 2 input)))
+      → Lays out 0 (openingLine (scriptOf (take (2 + size - 2) (drop 2 input)))) mid next
       → Turned q ended input (2 + size) mid next after t → Turned p ended input 0 out 0 after t
   unfolding moveOf
-  opening-goes {size} room framed is lays later =
+  opening-goes {size} {q} room framed is lays later =
       let next = sym (framed .next) in
+      let rest = drop (2 + size) input in
       turned-after (omega arith) (omega arith)
       ((λ i. moveAt (stage i) p ended (next i))
-      ∙ ap (λ (x : Player). says (openingLine (scriptOf (take size (drop 2 input)))) x (drop (2 + size) input)) (sym is))
+      ∙ ap (λ (s : List ℕ). says (openingLine (scriptOf s)) (openedBy p s (scriptOf s)) rest) (sym (part-of input 2 size))
+      ∙ ap (λ (x : Player). says (openingLine (scriptOf (take (2 + size - 2) (drop 2 input)))) x rest) (sym is))
       lays later
 
 -- how far a turn has come: whatever turn follows from here is one from the start
@@ -213,34 +221,47 @@ pub record Going (p : Player) (ended : Bool) (input : List ℕ) (from : ℕ) (ou
   pub within : at ≤ length input
   pub room : filled ≤ length held
 
-module _ {p : Player} {ended : Bool} {input : List ℕ} {from : ℕ} {out : List ℕ} {start : ℕ} where
-  -- no record is played yet
-  pub going-none : p .stage ≡ Stage.Steps → from ≤ length input → start ≤ length out
-      → Going p ended input from out start
-      (record { stage = Stage.Steps; texts = p .texts; sizes = p .sizes; monitor = p .monitor; accepted = p .accepted; refused = p .refused }) from out start
-  going-none stage within room =
-      record {
-        onto = λ after t turned.
-            subst (λ (s : Stage). Turned (record { stage = s; texts = p .texts; sizes = p .sizes; monitor = p .monitor; accepted = p .accepted; refused = p .refused }) ended input from out start after t)
-            (sym stage) turned;
-        within = within;
-        room = room;
-      }
+-- a player that awaits steps, by its parts
+abbrev pub awaiting : List ℕ → List ℕ → Monitor → ℕ → ℕ → Player
+awaiting texts sizes m accepted refused = record { stage = Stage.Steps; texts = texts; sizes = sizes; monitor = m; accepted = accepted; refused = refused }
 
-  module _ {q : Player} {at : ℕ} {held : List ℕ} {filled : ℕ} (going : Going p ended input from out start q at held filled) where
-    -- one record more
-    pub going-more : {size next : ℕ} {after : List ℕ} {s : Stepped} → q .stage ≡ Stage.Steps → moveRoom ≤ length held - filled → Framed input at (Record.Whole size)
-        → s ≡ stepOf (q .monitor) (take size (drop (at + 2) input)) → Lays held filled (replyLines (textKept (q .texts) (q .sizes)) s) after next
-        → Going p ended input from out start (onward q s) (at + 2 + size) after next
-    unfolding moveOf
-    going-more {size} {next} {after} {s} stage enough framed is lays =
-        let record-next = sym (framed .next) in
-        record {
-          onto = λ last t turned. going .onto last t
-              (turned-after (going .room) enough
-              ((λ i. moveAt (stage i) q ended (record-next i))
-              ∙ ap (λ (x : Stepped). says (replyLines (textKept (q .texts) (q .sizes)) x) (onward q x) (drop (at + 2 + size) input)) (sym is))
-              lays turned);
-          within = framed .ends;
-          room = omega (arith, lays .place, end-within (length held) filled (replyLines (textKept (q .texts) (q .sizes)) s) (going .room), lays-length lays);
-        }
+-- a turn of a player that awaits steps
+pub awaiting-turned : {p : Player} {ended : Bool} {input : List ℕ} {from : ℕ} {out : List ℕ} {start : ℕ} {after : List ℕ} {t : Turn} → p .stage ≡ Stage.Steps
+    → Turned (awaiting (p .texts) (p .sizes) (p .monitor) (p .accepted) (p .refused)) ended input from out start after t → Turned p ended input from out start after t
+awaiting-turned {p} {ended} {input} {from} {out} {start} {after} {t} stage turned =
+    subst (λ (s : Stage). Turned (record { stage = s; texts = p .texts; sizes = p .sizes; monitor = p .monitor; accepted = p .accepted; refused = p .refused }) ended input from out start after t)
+    (sym stage) turned
+
+-- a record that is not whole
+pub framed-none : {input : List ℕ} {at : ℕ} (r : Record) → Framed input at r → ((size : ℕ) → r ≡ Record.Whole size → ⊥) → NoWhole (nextRecord (drop at input))
+framed-none Record.End framed not = subst NoWhole (framed .next) tt
+framed-none Record.Stops framed not = subst NoWhole (framed .next) tt
+framed-none (Record.Whole size) framed not = absurd (not size refl)
+
+-- no record is played yet
+pub going-none : {p : Player} {ended : Bool} {input : List ℕ} {from : ℕ} {out : List ℕ} {start : ℕ} → from ≤ length input → start ≤ length out
+    → Going p ended input from out start p from out start
+going-none within room = record { onto = λ after t turned. turned; within = within; room = room }
+
+module _ {p : Player} {ended : Bool} {input : List ℕ} {from : ℕ} {out : List ℕ} {start : ℕ} {texts sizes : List ℕ} {m : Monitor} {a f at : ℕ} {held : List ℕ} {filled : ℕ}
+    (going : Going p ended input from out start (awaiting texts sizes m a f) at held filled) where
+  -- one record more
+  pub going-more : {size next accepted refused : ℕ} {after : List ℕ} {s : Stepped} → moveRoom ≤ length held - filled → Framed input at (Record.Whole size)
+      → s ≡ stepOf m (take (at + 2 + size - (at + 2)) (drop (at + 2) input)) → Lays held filled (replyLines (textKept texts sizes) s) after next
+      → accepted ≡ acceptedAfter (s .answer) a → refused ≡ refusedAfter (s .answer) f
+      → Going p ended input from out start (awaiting texts sizes (s .monitor) accepted refused) (at + 2 + size) after next
+  unfolding moveOf
+  going-more {size} {next} {accepted} {refused} {after} {s} enough framed is lays counted also =
+      let record-next = sym (framed .next) in
+      let text = replyLines (textKept texts sizes) s in
+      let rest = drop (at + 2 + size) input in
+      record {
+        onto = λ last t turned. going .onto last t
+            (turned-after (going .room) enough
+            (ap (stepMove (awaiting texts sizes m a f) ended) record-next
+            ∙ ap (λ (x : Stepped). says (replyLines (textKept texts sizes) x) (onward (awaiting texts sizes m a f) x) rest) (sym (is ∙ ap (stepOf m) (part-of input (at + 2) size)))
+            ∙ (λ i. says text (awaiting texts sizes (s .monitor) (sym counted i) (sym also i)) rest))
+            lays turned);
+        within = framed .ends;
+        room = omega (arith, lays .place, end-within (length held) filled text (going .room), lays-length lays);
+      }
