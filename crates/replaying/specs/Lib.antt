@@ -2,6 +2,7 @@
 pub mod Moving
 pub mod Framing
 pub mod Texts
+pub mod Opening
 pub mod Printing
 pub mod Turning
 pub mod Fitting
