@@ -9,7 +9,7 @@ use borrow.Author.Tests.{lt-ltb, le-ltb}
 use lib.Dec.{leb, ltb}
 use lib.ListN.{length, take, drop, length-drop}
 use lib.Seq.{drop-length}
-use Rattle.bits.specs.Reading.{Got}
+use Rattle.bits.specs.Reading.{Got, got, refused}
 use Rattle.table.specs.declared.Table.{Table}
 use Rattle.script.specs.Reader.{scriptOf}
 use Rattle.monitor.specs.declared.Monitor.{Monitor}
@@ -58,7 +58,7 @@ module _ {p : Player} {ended : Bool} {input : List ℕ} {from : ℕ} {out : List
   turned-none none within room over is = record { text = []; moves = none; lays = lays-none out start; within = within; room = room; done = is }
 
   -- a move, and then a turn of the player that it leaves
-  pub turned-after : {q : Player} {at : ℕ} {text mid after : List ℕ} {next : ℕ} {t : Turn} → start ≤ length out → moveRoom ≤ length out - start
+  turned-after : {q : Player} {at : ℕ} {text mid after : List ℕ} {next : ℕ} {t : Turn} → start ≤ length out → moveRoom ≤ length out - start
       → moveOf p ended (drop from input) ≡ says text q (drop at input) → Lays out start text mid next → Turned q ended input at mid next after t
       → Turned p ended input from out start after t
   turned-after {q} {at} {text} {mid} {after} {next} {t} within room is lays later =
@@ -75,19 +75,19 @@ module _ {p : Player} {ended : Bool} {input : List ℕ} {from : ℕ} {out : List
       }
 
   -- there is no room for a move
-  pub turned-full : length out - start < moveRoom → from ≤ length input → start ≤ length out → (over : Bool) → over ≡ isOver (p .stage)
+  turned-full : length out - start < moveRoom → from ≤ length input → start ≤ length out → (over : Bool) → over ≡ isOver (p .stage)
       → Turned p ended input from out start out (staying p over from start)
   turned-full short within room over is = turned-none (full short) within room over is
 
   -- a player that is over has no move
-  pub turned-over : p .stage ≡ Stage.Over → from ≤ length input → start ≤ length out → Turned p ended input from out start out (staying p true from start)
+  turned-over : p .stage ≡ Stage.Over → from ≤ length input → start ≤ length out → Turned p ended input from out start out (staying p true from start)
   unfolding moveOf
   turned-over stage within room =
       turned-none (idle (ap (λ (s : Stage). moveAt s p ended (nextRecord (drop from input))) stage)) within room true (ap isOver (sym stage))
 
 module _ {p : Player} {ended : Bool} {input : List ℕ} {from : ℕ} {out : List ℕ} {start : ℕ} where
   -- all is printed, and all of the input is taken
-  pub turned-last : {text mid : List ℕ} {next : ℕ} → start ≤ length out → moveRoom ≤ length out - start → moveOf p ended (drop from input) ≡ says text (finished p) []
+  turned-last : {text mid : List ℕ} {next : ℕ} → start ≤ length out → moveRoom ≤ length out - start → moveOf p ended (drop from input) ≡ says text (finished p) []
       → Lays out start text mid next → Turned p ended input from out start mid (staying (finished p) true (length input) next)
   turned-last {text} {mid} {next} within room is lays =
       turned-after within room (is ∙ ap (says text (finished p)) (sym (drop-length input))) lays
@@ -215,6 +215,22 @@ module _ {p : Player} {input out : List ℕ} (stage : p .stage ≡ Stage.Script)
       ∙ ap (λ (x : Player). says (openingLine (scriptOf (take (2 + size - 2) (drop 2 input)))) x rest) (sym is))
       lays later
 
+-- a turn of a player that is over
+pub stays-over : {p : Player} {ended : Bool} {input : List ℕ} {at : ℕ} {out : List ℕ} {filled : ℕ} {t : Turn} → p .stage ≡ Stage.Over → at ≤ length input → filled ≤ length out
+    → t ≡ staying p true at filled → Turned p ended input at out filled out t
+stays-over {p} {ended} {input} {at} {out} {filled} stage within room is = subst (Turned p ended input at out filled out) (sym is) (turned-over stage within room)
+
+-- a player that was opened does not await a script
+pub opened-on : (p : Player) {q : Player} (script : List ℕ) (m : Got Table) → q ≡ openedBy p script m → q .stage ≡ Stage.Script → ⊥
+opened-on p script (got t at) is awaits =
+    let other : Stage.Steps ≡ Stage.Script = ap (λ (x : Player). x .stage) (sym is) ∙ awaits in
+    let z : _≡_ {A = ℕ} 0 1 = cc other in
+    omega arith
+opened-on p script (refused r) is awaits =
+    let other : Stage.Over ≡ Stage.Script = ap (λ (x : Player). x .stage) (sym is) ∙ awaits in
+    let z : _≡_ {A = ℕ} 0 1 = cc other in
+    omega arith
+
 -- how far a turn has come: whatever turn follows from here is one from the start
 pub record Going (p : Player) (ended : Bool) (input : List ℕ) (from : ℕ) (out : List ℕ) (start : ℕ) (q : Player) (at : ℕ) (held : List ℕ) (filled : ℕ) : Type 0 where
   pub onto : (after : List ℕ) (t : Turn) → Turned q ended input at held filled after t → Turned p ended input from out start after t
@@ -223,7 +239,7 @@ pub record Going (p : Player) (ended : Bool) (input : List ℕ) (from : ℕ) (ou
 
 -- a player that awaits steps, by its parts
 abbrev pub awaiting : List ℕ → List ℕ → Monitor → ℕ → ℕ → Player
-awaiting texts sizes m accepted refused = record { stage = Stage.Steps; texts = texts; sizes = sizes; monitor = m; accepted = accepted; refused = refused }
+awaiting texts sizes m a f = record { stage = Stage.Steps; texts = texts; sizes = sizes; monitor = m; accepted = a; refused = f }
 
 -- a turn of a player that awaits steps
 pub awaiting-turned : {p : Player} {ended : Bool} {input : List ℕ} {from : ℕ} {out : List ℕ} {start : ℕ} {after : List ℕ} {t : Turn} → p .stage ≡ Stage.Steps
@@ -246,12 +262,12 @@ going-none within room = record { onto = λ after t turned. turned; within = wit
 module _ {p : Player} {ended : Bool} {input : List ℕ} {from : ℕ} {out : List ℕ} {start : ℕ} {texts sizes : List ℕ} {m : Monitor} {a f at : ℕ} {held : List ℕ} {filled : ℕ}
     (going : Going p ended input from out start (awaiting texts sizes m a f) at held filled) where
   -- one record more
-  pub going-more : {size next accepted refused : ℕ} {after : List ℕ} {s : Stepped} → moveRoom ≤ length held - filled → Framed input at (Record.Whole size)
+  pub going-more : {size next a₁ f₁ : ℕ} {after : List ℕ} {s : Stepped} → moveRoom ≤ length held - filled → Framed input at (Record.Whole size)
       → s ≡ stepOf m (take (at + 2 + size - (at + 2)) (drop (at + 2) input)) → Lays held filled (replyLines (textKept texts sizes) s) after next
-      → accepted ≡ acceptedAfter (s .answer) a → refused ≡ refusedAfter (s .answer) f
-      → Going p ended input from out start (awaiting texts sizes (s .monitor) accepted refused) (at + 2 + size) after next
+      → a₁ ≡ acceptedAfter (s .answer) a → f₁ ≡ refusedAfter (s .answer) f
+      → Going p ended input from out start (awaiting texts sizes (s .monitor) a₁ f₁) (at + 2 + size) after next
   unfolding moveOf
-  going-more {size} {next} {accepted} {refused} {after} {s} enough framed is lays counted also =
+  going-more {size} {next} {a₁} {f₁} {after} {s} enough framed is lays counted also =
       let record-next = sym (framed .next) in
       let text = replyLines (textKept texts sizes) s in
       let rest = drop (at + 2 + size) input in

@@ -131,6 +131,19 @@ fn steps(p: Player, input: &[u8], from: usize, ended: bool, out: &mut [u8], star
     close(player, input, at, ended, out, filled)
 }
 
+// What follows a script: records, or nothing, where it was refused.
+fn follow(p: Player, input: &[u8], at: usize, ended: bool, out: &mut [u8], filled: usize) -> Turn
+    requires { ⌜ (p .stage ≡ Stage.Script → ⊥) × (at ≤ length (now input)) × (filled ≤ length (now out)) ⌝ }
+    ensures { λ r. ⌜ Turned p ended (now (input .entry)) at (now (out .entry)) filled (now (out .exit)) r ⌝ }
+{
+    let stage = p.stage;
+    match stage {
+        Stage::Script => stays(p, false, at, filled),
+        Stage::Steps => steps(p, input, at, ended, out, filled),
+        Stage::Over => stays(p, true, at, filled),
+    }
+}
+
 // The script, once it is wholly there, and then the records after it.
 fn begin(p: Player, input: &[u8], ended: bool, out: &mut [u8]) -> Turn
     requires { ⌜ p .stage ≡ Stage.Script ⌝ }
@@ -145,12 +158,7 @@ fn begin(p: Player, input: &[u8], ended: bool, out: &mut [u8]) -> Turn
     let end = 2 + size;
     let o = opened(p, &input[2..end], out);
     let player = o.player;
-    let stage = player.stage;
-    match stage {
-        Stage::Script => stays(player, false, end, o.filled),
-        Stage::Steps => steps(player, input, end, ended, out, o.filled),
-        Stage::Over => stays(player, true, end, o.filled),
-    }
+    follow(player, input, end, ended, out, o.filled)
 }
 
 // "input that stops before the whole script is there prints `cut` and nothing else"
