@@ -13,6 +13,7 @@ use Rattle.stream.specs.Cutting.{whole-more, rest-shorter, longest, long-begins
 use Rattle.replaying.specs.declared.Stage.{Stage}
 use Rattle.replaying.specs.declared.Player.{Player}
 use Rattle.replaying.specs.declared.Turn.{Turn}
+use Rattle.replaying.specs.Fitting.{Fit, move-fits, fit-stays}
 use Rattle.replaying.specs.Moving.{waits, says, moveAt, moveOf, moveRoom, finished, Moves, full, idle, move, isOver, Turned}
 
 -- what a player prints of the whole rest of a stream
@@ -135,30 +136,27 @@ turn-prints {out = out} turn room =
     let whole = laid-whole out (turn .text) room in
     (λ i. take ((turn .lays .place ∙ whole .0) i) (turn .lays .bytes i)) ∙ whole .1
 
-module _ (Fit : Player → Type 0)
-    (move-fits : (p q : Player) (ended : Bool) (input text rest : List ℕ) → Fit p → moveOf p ended input ≡ says text q rest → length text ≤ moveRoom)
-    (fit-stays : (p q : Player) (ended : Bool) (input text rest : List ℕ) → Fit p → moveOf p ended input ≡ says text q rest → Fit q) where
-  -- moves print no more than there is room for
-  moves-fit : {ended : Bool} {room : ℕ} {p q : Player} {input text rest : List ℕ} → Fit p → Moves ended room p input text q rest → (length text ≤ room) × Fit q
-  moves-fit fit (full less) = (omega arith, fit)
-  moves-fit fit (idle e) = (omega arith, fit)
-  moves-fit {ended} fit (move {p = p} {q = q} {input = input} {rest = rest} {text = text} {later = later} enough e moves) =
-      let rest-fits = moves-fit (fit-stays p q ended input text rest fit e) moves in
-      (omega (arith, length-append text later, move-fits p q ended input text rest fit e, rest-fits .0), rest-fits .1)
+-- moves print no more than there is room for
+moves-fit : {ended : Bool} {room : ℕ} {p q : Player} {input text rest : List ℕ} → Fit p → Moves ended room p input text q rest → (length text ≤ room) × Fit q
+moves-fit fit (full less) = (omega arith, fit)
+moves-fit fit (idle e) = (omega arith, fit)
+moves-fit {ended} fit (move {p = p} {input = input} {text = text} {later = later} enough e moves) =
+    let rest-fits = moves-fit (fit-stays p fit ended input e) moves in
+    (omega (arith, length-append text later, move-fits p fit ended input e, rest-fits .0), rest-fits .1)
 
-  -- a stream in pieces prints what the whole stream prints
-  pub run-plays : {p : Player} {held said : List ℕ} {pieces : List (List ℕ)} → Fit p → Run p held pieces said → Plays p (held ++ flatten pieces) said
-  unfolding flatten
-  run-plays fit (reads {p = p} {held = held} {piece = piece} {said = said} {pieces = pieces} run) =
-      subst (λ (l : List ℕ). Plays p l said) (append-assoc held piece (flatten pieces)) (run-plays fit run)
-  run-plays fit (turns {pieces = pieces} enough turn run) =
-      let fits = moves-fit fit (turn .moves) in
-      rw (turn-prints turn (omega (arith, fits .0))) (moves-then (flatten pieces) (turn .moves) (run-plays (fits .1) run))
-  run-plays fit (closes {held = held} {r = r} enough turn run) =
-      let fits = moves-fit fit (turn .moves) in
-      let later = rw (append-nil (drop (r .taken) held)) at (run-plays (fits .1) run) in
-      rw (append-nil held, turn-prints turn (omega (arith, fits .0))) (moves-last (turn .moves) later)
-  run-plays fit (stops {p = p} {held = held} {pieces = pieces} done) = over (over-waits p true (held ++ flatten pieces) done)
+-- a stream in pieces prints what the whole stream prints
+pub run-plays : {p : Player} {held said : List ℕ} {pieces : List (List ℕ)} → Fit p → Run p held pieces said → Plays p (held ++ flatten pieces) said
+unfolding flatten
+run-plays fit (reads {p = p} {held = held} {piece = piece} {said = said} {pieces = pieces} run) =
+    subst (λ (l : List ℕ). Plays p l said) (append-assoc held piece (flatten pieces)) (run-plays fit run)
+run-plays fit (turns {pieces = pieces} enough turn run) =
+    let fits = moves-fit fit (turn .moves) in
+    rw (turn-prints turn (omega (arith, fits .0))) (moves-then (flatten pieces) (turn .moves) (run-plays (fits .1) run))
+run-plays fit (closes {held = held} {r = r} enough turn run) =
+    let fits = moves-fit fit (turn .moves) in
+    let later = rw (append-nil (drop (r .taken) held)) at (run-plays (fits .1) run) in
+    rw (append-nil held, turn-prints turn (omega (arith, fits .0))) (moves-last (turn .moves) later)
+run-plays fit (stops {p = p} {held = held} {pieces = pieces} done) = over (over-waits p true (held ++ flatten pieces) done)
 
 -- bytes enough for a move: the last ones, or as many as the longest record has
 pub data Enough : Bool → List ℕ → Type 0 where

@@ -64,7 +64,7 @@ module _ {p : Player} {ended : Bool} {input : List ℕ} {from : ℕ} {out : List
   turned-after {q} {at} {text} {mid} {after} {next} {t} within room is lays later =
       let same = lays-length lays in
       let left : length mid - next ≡ length out - start - length text =
-          (λ i. same i - lays .place i) ∙ end-room (length out) start text within in
+      (λ i. same i - lays .place i) ∙ end-room (length out) start text within in
       record {
         text = text ++ later .text;
         moves = move room is (subst (λ (n : ℕ). Moves ended n q (drop at input) (later .text) (t .player) (drop (t .taken) input)) left (later .moves));

@@ -33,6 +33,8 @@ use Rattle.stream.specs.Replay.{rowLines, labelText, stepLines, Counts, tallied
 use Rattle.replaying.specs.declared.Stage.{Stage}
 use Rattle.replaying.specs.declared.Player.{Player}
 use Rattle.replaying.specs.Moving.{textKept, textsOf, sizesOf, replyLines, mostSteps, onceMore, newPlayer, begun, onward, says, moveAt, moveOf, moveRoom, openingLine, openedBy, played}
+use Rattle.replaying.specs.Texts.{text-kept}
+use Rattle.replaying.specs.Fitting.{new-fits}
 use Rattle.replaying.specs.Pieces.{Plays, over, then, plays-same, over-waits, Run, run-plays}
 
 -- entries with the same labels and the same results have the same lines
@@ -92,72 +94,68 @@ unfolding moveOf
 script-says ended input script rest e g read =
     ap (moveAt Stage.Script newPlayer ended) e ∙ ap (λ (x : Got Table). says (openingLine x) (openedBy newPlayer script x) rest) read
 
-module _ (text-kept : (script : List ℕ) (k : ℕ) → k < limits .slots → textKept (textsOf script) (sizesOf script) k ≡ labelText script k) where
-  -- the lines of a reply are those that document 01 says of the step
-  reply-says : (script : List ℕ) (t : Table) → tableFault t ≡ Answer.Accepted → (h : History) (g : Got Step)
-      → replyLines (textKept (textsOf script) (sizesOf script)) (replyFor t h g) ≡ stepLines t script h g
-  unfolding replyLines
-  reply-says script t good h (got s at) =
-      let within = sound-table t good .within .entries in
-      rw (recall-table t (s ∷ h)) (rows-same (t .n) (λ k less. text-kept script k (omega arith)) (omega (arith, recall-last t s h)) (slot-result t (s ∷ h)))
-  reply-says script t good h (refused r) = refl
+-- the lines of a reply are those that document 01 says of the step
+reply-says : (script : List ℕ) (t : Table) → tableFault t ≡ Answer.Accepted → (h : History) (g : Got Step)
+    → replyLines (textKept (textsOf script) (sizesOf script)) (replyFor t h g) ≡ stepLines t script h g
+unfolding replyLines
+reply-says script t good h (got s at) =
+    let within = sound-table t good .within .entries in
+    rw (recall-table t (s ∷ h)) (rows-same (t .n) (λ k less. text-kept script k (omega arith)) (omega (arith, recall-last t s h)) (slot-result t (s ∷ h)))
+reply-says script t good h (refused r) = refl
 
-  module _ (script : List ℕ) (t : Table) (shaped : Shaped t) (good : tableFault t ≡ Answer.Accepted) where
-    -- the move of a player that knows the history of what was offered before, where a whole record comes next
-    step-says : (before : List (List ℕ)) (c : Counts) → c .accepted < mostSteps → c .refused < mostSteps → (ended : Bool) (input bytes rest : List ℕ)
-        → nextRecord input ≡ whole bytes rest → let h = historyOf t before in let g = offered t h bytes in
-        moveOf (knowing script t h c) ended input ≡ says (stepLines t script h g) (knowing script t (grown h g) (tallied c g)) rest
-    unfolding moveOf
-    step-says before c few less ended input bytes rest e =
-        let h = historyOf t before in
-        let p = knowing script t h c in
-        let g = offered t h bytes in
-        ap (moveAt Stage.Steps p ended) e
-        ∙ ap (λ (s : Stepped). played p s rest) (step-answers t shaped good before bytes)
-        ∙ (λ i. says (reply-says script t good h g i) (onward-knowing script t h c g few less i) rest)
+module _ (script : List ℕ) (t : Table) (shaped : Shaped t) (good : tableFault t ≡ Answer.Accepted) where
+  -- the move of a player that knows the history of what was offered before, where a whole record comes next
+  step-says : (before : List (List ℕ)) (c : Counts) → c .accepted < mostSteps → c .refused < mostSteps → (ended : Bool) (input bytes rest : List ℕ)
+      → nextRecord input ≡ whole bytes rest → let h = historyOf t before in let g = offered t h bytes in
+      moveOf (knowing script t h c) ended input ≡ says (stepLines t script h g) (knowing script t (grown h g) (tallied c g)) rest
+  unfolding moveOf
+  step-says before c few less ended input bytes rest e =
+      let h = historyOf t before in
+      let p = knowing script t h c in
+      let g = offered t h bytes in
+      ap (moveAt Stage.Steps p ended) e
+      ∙ ap (λ (s : Stepped). played p s rest) (step-answers t shaped good before bytes)
+      ∙ (λ i. says (reply-says script t good h g i) (onward-knowing script t h c g few less i) rest)
 
-    -- what it prints is what document 01 says of the records that are left
-    steps-play : (most : ℕ) (input : List ℕ) → length input < most → (before : List (List ℕ)) (c : Counts) → Countable c (length input)
-        → Plays (knowing script t (historyOf t before) c) input (stepsFrom t script (recordsOf input .cut) (historyOf t before) c (recordsOf input .records))
-    unfolding stepsFrom historyOf moveOf
-    steps-play zero input fewer before c few = absurd (not-suc-le-zero fewer)
-    steps-play (suc most) input fewer before c few =
-        let h = historyOf t before in
-        let p = knowing script t h c in
-        by-next (λ r. Plays p input (stepsFrom t script (r .cut) h c (r .records))) input
-        (λ e. last-lines p input (ap (moveAt Stage.Steps p true) e) refl)
-        (λ e. last-lines p input (ap (moveAt Stage.Steps p true) e) refl)
-        (λ bytes rest e.
+  -- what it prints is what document 01 says of the records that are left
+  steps-play : (most : ℕ) (input : List ℕ) → length input < most → (before : List (List ℕ)) (c : Counts) → Countable c (length input)
+      → Plays (knowing script t (historyOf t before) c) input (stepsFrom t script (recordsOf input .cut) (historyOf t before) c (recordsOf input .records))
+  unfolding stepsFrom historyOf moveOf
+  steps-play zero input fewer before c few = absurd (not-suc-le-zero fewer)
+  steps-play (suc most) input fewer before c few =
+      let h = historyOf t before in
+      let p = knowing script t h c in
+      by-next (λ r. Plays p input (stepsFrom t script (r .cut) h c (r .records))) input
+      (λ e. last-lines p input (ap (moveAt Stage.Steps p true) e) refl)
+      (λ e. last-lines p input (ap (moveAt Stage.Steps p true) e) refl)
+      (λ bytes rest e.
+      let shorter = rest-shorter input e in
+      then (step-says before c (omega (arith, few .accepted)) (omega (arith, few .refused)) true input bytes rest e)
+      (steps-play most rest (omega arith) (bytes ∷ before) (tallied c (offered t h bytes)) (tallied-countable c (offered t h bytes) few (omega arith))))
+
+-- what a new player prints of a stream, of fewer than 2^64 bytes, is what document 01 says of it
+pub new-player-replays : (input : List ℕ) → length input < 2 ^ 64 → Plays newPlayer input (replayed input)
+unfolding replayed moveOf historyOf
+new-player-replays input few =
+    by-next (λ r. Plays newPlayer input (streamLines (r .cut) (r .records))) input
+    (λ e. last-lines newPlayer input (ap (moveAt Stage.Script newPlayer true) e) refl)
+    (λ e. last-lines newPlayer input (ap (moveAt Stage.Script newPlayer true) e) refl)
+    (λ script rest e. opened script rest e (scriptOf script) refl)
+  where
+    -- the rest, by what came of the script
+    opened : (script rest : List ℕ) → nextRecord input ≡ whole script rest → (g : Got Table) → scriptOf script ≡ g
+        → Plays newPlayer input (scriptLines script (recordsOf rest .cut) (recordsOf rest .records) g)
+    opened script rest e (got t at) read =
+        let shaped = read-shaped script t at read in
+        let good = read-sound script t at read in
         let shorter = rest-shorter input e in
-        then (step-says before c (omega (arith, few .accepted)) (omega (arith, few .refused)) true input bytes rest e)
-        (steps-play most rest (omega arith) (bytes ∷ before) (tallied c (offered t h bytes)) (tallied-countable c (offered t h bytes) few (omega arith))))
+        let lines = stepsFrom t script (recordsOf rest .cut) [] nothing (recordsOf rest .records) in
+        then (script-says true input script rest e (got t at) read)
+        (subst (λ (p : Player). Plays p rest lines) (sym (begun-knowing script t shaped good))
+        (steps-play script t shaped good (suc (length rest)) rest (omega arith) [] nothing
+        (record { accepted = omega arith; refused = omega arith })))
+    opened script rest e (refused r) read = last-lines newPlayer input (script-says true input script rest e (refused r) read) refl
 
-  -- what a new player prints of a stream, of fewer than 2^64 bytes, is what document 01 says of it
-  pub new-player-replays : (input : List ℕ) → length input < 2 ^ 64 → Plays newPlayer input (replayed input)
-  unfolding replayed moveOf historyOf
-  new-player-replays input few =
-      by-next (λ r. Plays newPlayer input (streamLines (r .cut) (r .records))) input
-      (λ e. last-lines newPlayer input (ap (moveAt Stage.Script newPlayer true) e) refl)
-      (λ e. last-lines newPlayer input (ap (moveAt Stage.Script newPlayer true) e) refl)
-      (λ script rest e. opened script rest e (scriptOf script) refl)
-    where
-      -- the rest, by what came of the script
-      opened : (script rest : List ℕ) → nextRecord input ≡ whole script rest → (g : Got Table) → scriptOf script ≡ g
-          → Plays newPlayer input (scriptLines script (recordsOf rest .cut) (recordsOf rest .records) g)
-      opened script rest e (got t at) read =
-          let shaped = read-shaped script t at read in
-          let good = read-sound script t at read in
-          let shorter = rest-shorter input e in
-          let lines = stepsFrom t script (recordsOf rest .cut) [] nothing (recordsOf rest .records) in
-          then (script-says true input script rest e (got t at) read)
-          (subst (λ (p : Player). Plays p rest lines) (sym (begun-knowing script t shaped good))
-          (steps-play script t shaped good (suc (length rest)) rest (omega arith) [] nothing
-          (record { accepted = omega arith; refused = omega arith })))
-      opened script rest e (refused r) read = last-lines newPlayer input (script-says true input script rest e (refused r) read) refl
-
-  module _ (Fit : Player → Type 0) (new-fits : Fit newPlayer)
-      (move-fits : (p q : Player) (ended : Bool) (input text rest : List ℕ) → Fit p → moveOf p ended input ≡ says text q rest → length text ≤ moveRoom)
-      (fit-stays : (p q : Player) (ended : Bool) (input text rest : List ℕ) → Fit p → moveOf p ended input ≡ says text q rest → Fit q) where
-    -- what the program prints, in whatever pieces the stream comes, is what document 01 says of the stream
-    pub run-replayed : {pieces : List (List ℕ)} {said : List ℕ} → Run newPlayer [] pieces said → length (flatten pieces) < 2 ^ 64 → said ≡ replayed (flatten pieces)
-    run-replayed {pieces} run few = plays-same (run-plays Fit move-fits fit-stays new-fits run) (new-player-replays (flatten pieces) few)
+-- what the program prints, in whatever pieces the stream comes, is what document 01 says of the stream
+pub run-replayed : {pieces : List (List ℕ)} {said : List ℕ} → Run newPlayer [] pieces said → length (flatten pieces) < 2 ^ 64 → said ≡ replayed (flatten pieces)
+run-replayed {pieces} run few = plays-same (run-plays new-fits run) (new-player-replays (flatten pieces) few)

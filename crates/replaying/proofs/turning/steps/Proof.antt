@@ -60,8 +60,7 @@ loop-again c =
 close-requires : tie.Need-close-requires Inv-loop μ-loop
 close-requires c κs =
     let left = c .before in
-    let d = left .before in
-    (
+    let d = left .before in (
       d .loop .inv .within,
       d .loop .inv .room,
       record {
