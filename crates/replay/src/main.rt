@@ -2,9 +2,8 @@
 mod source;
 
 use libc::STDOUT_FILENO;
-use source::keep;
-use source::more;
 use source::opened;
+use source::refill;
 ghost use mathlib.Core.Path.{_≡_};
 ghost use lib.ListN.{length};
 
@@ -33,14 +32,13 @@ fn play_all(fd: i32) {
         if t.over {
             return;
         }
-        have = keep(&mut input, t.taken, have);
-        let came = more(fd, ended, &mut input[have..]);
-        if came.failed {
+        let held = refill(fd, ended, &mut input, t.taken, have);
+        if held.failed {
             os::fail(b"replay: read");
             return;
         }
-        have += came.count;
-        ended = came.ended;
+        have = held.have;
+        ended = held.ended;
         player = t.player;
         turns -= 1;
     }

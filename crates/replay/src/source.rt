@@ -1,12 +1,14 @@
 // Where a stream comes from: standard input or a file, read as it comes.
 use libc::STDIN_FILENO;
+ghost use mathlib.Core.Bool.{false};
 ghost use mathlib.Core.Path.{_≡_};
 ghost use Prim.Native.Nat.{_-_, _≤_};
-ghost use lib.ListN.{length, take, drop};
+ghost use lib.ListN.{length, drop};
+ghost use lib.Seq.{paste};
 
-// What a read brought: so many bytes, or that the input has ended, or that it failed.
-pub(crate) struct Came {
-    pub(crate) count: usize,
+// The input after a read: how many bytes it holds, whether it has ended, and whether the read failed.
+pub(crate) struct Held {
+    pub(crate) have: usize,
     pub(crate) ended: bool,
     pub(crate) failed: bool,
 }
@@ -30,10 +32,10 @@ pub(crate) fn opened() -> i32 {
 }
 
 // The bytes from `taken` up to `have` moved to the front; how many they are.
-pub(crate) fn keep(input: &mut [u8], taken: usize, have: usize) -> usize
+fn keep(input: &mut [u8], taken: usize, have: usize) -> usize
     requires { ⌜ (taken ≤ have) × (have ≤ length (now input)) ⌝ }
     ensures { λ r. ⌜ r ≡ have - taken ⌝ }
-    ensures { λ r. ⌜ take r (now (input .exit)) ≡ drop taken (take have (now (input .entry))) ⌝ }
+    ensures { λ r. ⌜ now (input .exit) ≡ paste (now (input .entry)) 0 (drop taken (now (input .entry))) (have - taken) ⌝ }
 {
     let mut i: usize = 0;
     let mut from = taken;
@@ -45,32 +47,43 @@ pub(crate) fn keep(input: &mut [u8], taken: usize, have: usize) -> usize
     i
 }
 
-// No byte.
-fn nothing(ended: bool) -> Came
-    ensures { λ r. ⌜ r .count ≡ 0 ⌝ }
+// Nothing is read.
+fn unread(have: usize, ended: bool) -> Held
+    ensures { λ r. ⌜ r ≡ record { have = have; ended = ended; failed = false } ⌝ }
 {
-    Came {
-        count: 0,
+    Held {
+        have: have,
         ended: ended,
         failed: false,
     }
 }
 
-// One read into the free part of the input, unless the input has ended. No room is not the end.
-pub(crate) fn more(fd: i32, ended: bool, free: &mut [u8]) -> Came
-    ensures { λ r. ⌜ r .count ≤ length (now (free .entry)) ⌝ }
+// One read after the first `have` bytes, unless the input has ended. No room is not the end.
+fn more(fd: i32, ended: bool, input: &mut [u8], have: usize) -> Held
+    requires { ⌜ have ≤ length (now input) ⌝ }
+    ensures { λ r. ⌜ (r .have ≤ length (now (input .entry))) × (length (now (input .exit)) ≡ length (now (input .entry))) ⌝ }
 {
     if ended {
-        return nothing(true);
+        return unread(have, true);
     }
-    if free.len() == 0 {
-        return nothing(false);
+    if have == input.len() {
+        return unread(have, false);
     }
+    let free = &mut input[have..];
     let got = libc::read(fd, free);
     let count = io::count(got, free);
-    Came {
-        count: count,
+    Held {
+        have: have + count,
         ended: got == 0,
         failed: got < 0,
     }
+}
+
+// What was not taken is kept, and more is read after it.
+pub(crate) fn refill(fd: i32, ended: bool, input: &mut [u8], taken: usize, have: usize) -> Held
+    requires { ⌜ (taken ≤ have) × (have ≤ length (now input)) ⌝ }
+    ensures { λ r. ⌜ (r .have ≤ length (now (input .entry))) × (length (now (input .exit)) ≡ length (now (input .entry))) ⌝ }
+{
+    let kept = keep(input, taken, have);
+    more(fd, ended, input, kept)
 }
