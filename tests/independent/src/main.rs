@@ -15,6 +15,7 @@ mod limits;
 mod lines;
 mod load;
 mod logic;
+mod long;
 mod mistake;
 mod mistakes;
 mod numbers;
@@ -41,7 +42,8 @@ const USAGE: &str = "independent replay [FILE] | inspect [FILE]
 independent compare --replay PATH --inspect PATH [--with WORDS] [--seed N] [--streams N | --seconds S]
 independent mistakes --replay PATH --inspect PATH [--seed N] [--streams N]
 independent load --replay PATH --inspect PATH [--with WORDS] [--seed N] [--records N | --streams N]
-independent stream --seed N --number I [--script] [--load] [--out FILE]";
+independent stream --seed N --number I [--script] [--load] [--out FILE]
+independent long [--records N] [--lines]";
 
 fn main() -> ExitCode {
     let words: Vec<String> = std::env::args().skip(1).collect();
@@ -62,6 +64,7 @@ fn command(words: &[String]) -> Result<(), String> {
         "replay" => written(&None, &lines::replay(&input(rest)?, Mistake::None)),
         "inspect" => written(&None, &lines::inspect(&input(rest)?, Mistake::None)),
         "stream" => stream(&Options::read(rest)?),
+        "long" => long(&Options::read(rest)?),
         "compare" | "mistakes" | "load" => {
             let options = Options::read(rest)?;
             options.need_programs()?;
@@ -102,4 +105,14 @@ fn stream(options: &Options) -> Result<(), String> {
         false => generate::made(options.seed, options.number),
     };
     written(&options.out, if options.script { &made.script } else { &made.bytes })
+}
+
+/// A stream of so many steps, or what it prints.
+fn long(options: &Options) -> Result<(), String> {
+    let out = std::io::stdout();
+    let done = match options.lines {
+        true => long::write_lines(options.records, out),
+        false => long::write_stream(options.records, out),
+    };
+    done.map_err(|error| error.to_string())
 }

@@ -15,6 +15,7 @@ pub struct Options {
     pub out: Option<String>,
     pub script: bool,
     pub load: bool,
+    pub lines: bool,
 }
 
 impl Options {
@@ -31,12 +32,14 @@ impl Options {
             out: None,
             script: false,
             load: false,
+            lines: false,
         };
         let mut words = words.iter();
         while let Some(word) = words.next() {
             match word.as_str() {
                 "--script" => options.script = true,
                 "--load" => options.load = true,
+                "--lines" => options.lines = true,
                 name => {
                     let value = words.next().ok_or(format!("{name} wants a word behind it"))?;
                     options.set(name, value)?;
