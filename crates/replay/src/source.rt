@@ -5,6 +5,7 @@ ghost use mathlib.Core.Path.{_≡_};
 ghost use Prim.Native.Nat.{_-_, _≤_};
 ghost use lib.ListN.{length, drop};
 ghost use lib.Seq.{paste};
+ghost use Rattle.replay.specs.Refilling.{Refilled};
 
 // The input after a read: how many bytes it holds, whether it has ended, and whether the read failed.
 pub(crate) struct Held {
@@ -61,7 +62,7 @@ fn unread(have: usize, ended: bool) -> Held
 // One read after the first `have` bytes, unless the input has ended. No room is not the end.
 fn more(fd: i32, ended: bool, input: &mut [u8], have: usize) -> Held
     requires { ⌜ have ≤ length (now input) ⌝ }
-    ensures { λ r. ⌜ (r .have ≤ length (now (input .entry))) × (length (now (input .exit)) ≡ length (now (input .entry))) ⌝ }
+    ensures { λ r. ⌜ Refilled (now (input .entry)) 0 have ended (now (input .exit)) r ⌝ }
 {
     if ended {
         return unread(have, true);
@@ -82,7 +83,7 @@ fn more(fd: i32, ended: bool, input: &mut [u8], have: usize) -> Held
 // What was not taken is kept, and more is read after it.
 pub(crate) fn refill(fd: i32, ended: bool, input: &mut [u8], taken: usize, have: usize) -> Held
     requires { ⌜ (taken ≤ have) × (have ≤ length (now input)) ⌝ }
-    ensures { λ r. ⌜ (r .have ≤ length (now (input .entry))) × (length (now (input .exit)) ≡ length (now (input .entry))) ⌝ }
+    ensures { λ r. ⌜ Refilled (now (input .entry)) taken have ended (now (input .exit)) r ⌝ }
 {
     let kept = keep(input, taken, have);
     more(fd, ended, input, kept)
