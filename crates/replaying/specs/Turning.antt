@@ -12,6 +12,7 @@ use lib.Seq.{drop-length}
 use Rattle.bits.specs.Reading.{Got, got, refused}
 use Rattle.table.specs.declared.Table.{Table}
 use Rattle.script.specs.Reader.{scriptOf}
+use Rattle.parts.specs.Within.{part-of}
 use Rattle.monitor.specs.declared.Monitor.{Monitor}
 use Rattle.monitor.specs.declared.Stepped.{Stepped}
 use Rattle.monitor.specs.Stepping.{stepOf}
@@ -23,8 +24,9 @@ use Rattle.replaying.specs.declared.Stage.{Stage}
 use Rattle.replaying.specs.declared.Player.{Player}
 use Rattle.replaying.specs.declared.Turn.{Turn}
 use Rattle.replaying.specs.declared.framing.Record.{Record}
-use Rattle.replaying.specs.Moving.{textKept, replyLines, acceptedAfter, refusedAfter, onward, finished, openingLine, openedBy, Move, waits, says, scriptMove, stepMove, moveAt, moveOf, moveRoom, Moves, full, idle, move, isOver, Turned}
-use Rattle.replaying.specs.Framing.{nextIn, Framed}
+use Rattle.replaying.specs.Moving.{textKept, replyLines, acceptedAfter, refusedAfter, onward, finished, openingLine, openedBy, waits, says, scriptMove, stepMove, moveAt, moveOf, moveRoom, Moves, full, idle, move, isOver, Turned}
+use Rattle.replaying.specs.Framing.{Framed}
+use Rattle.replaying.specs.Pieces.{over-waits}
 
 -- no whole record comes next
 abbrev pub NoWhole : Next → Type 0
@@ -81,9 +83,7 @@ module _ {p : Player} {ended : Bool} {input : List ℕ} {from : ℕ} {out : List
 
   -- a player that is over has no move
   turned-over : p .stage ≡ Stage.Over → from ≤ length input → start ≤ length out → Turned p ended input from out start out (staying p true from start)
-  unfolding moveOf
-  turned-over stage within room =
-      turned-none (idle (ap (λ (s : Stage). moveAt s p ended (nextRecord (drop from input))) stage)) within room true (ap isOver (sym stage))
+  turned-over stage within room = turned-none (idle (over-waits p ended (drop from input) stage)) within room true (ap isOver (sym stage))
 
 module _ {p : Player} {ended : Bool} {input : List ℕ} {from : ℕ} {out : List ℕ} {start : ℕ} where
   -- all is printed, and all of the input is taken
@@ -138,10 +138,6 @@ cut-script p (whole bytes rest) none = absurd none
 last-lines : (p : Player) (cut : Bool) → stepMove p true (cond cut stops end) ≡ says (closing cut (record { accepted = p .accepted; refused = p .refused })) (finished p) []
 last-lines p true = refl
 last-lines p false = refl
-
--- the bytes from a place up to another one
-part-of : (input : List ℕ) (at size : ℕ) → take (at + size - at) (drop at input) ≡ take size (drop at input)
-part-of input at size = ap (λ (n : ℕ). take n (drop at input)) {x = at + size - at} {y = size} (omega arith)
 
 -- an input that goes on
 goes-on : (ended : Bool) → not ended ≡ true → ended ≡ false
