@@ -16,7 +16,7 @@ use Rattle.parts.specs.Within.{part-of}
 use Rattle.monitor.specs.declared.Monitor.{Monitor}
 use Rattle.monitor.specs.declared.Stepped.{Stepped}
 use Rattle.monitor.specs.Stepping.{stepOf}
-use Rattle.lines.specs.Laying.{endOf, Lays, lays-none, lays-then, lays-length, end-within}
+use Rattle.lines.specs.Laying.{endOf, Lays, lays-none, lays-then, lays-length, lays-room}
 use Rattle.stream.specs.Lines.{cutLine}
 use Rattle.stream.specs.Records.{Next, end, stops, whole, nextRecord}
 use Rattle.stream.specs.Replay.{closing}
@@ -91,7 +91,7 @@ module _ {p : Player} {ended : Bool} {input : List ℕ} {from : ℕ} {out : List
       → Lays out start text mid next → Turned p ended input from out start mid (staying (finished p) true (length input) next)
   turned-last {text} {mid} {next} within room is lays =
       turned-after within room (is ∙ ap (says text (finished p)) (sym (drop-length input))) lays
-      (turned-over refl (omega arith) (omega (arith, lays .place, end-within (length out) start text within, lays-length lays)))
+      (turned-over refl (omega arith) (omega (arith, lays-room within lays, lays-length lays)))
 
 -- a record that is not whole stops inside
 not-whole : (b : Bool) (bytes rest : List ℕ) → NoWhole (cond b (whole bytes rest) stops) → cond b (whole bytes rest) stops ≡ stops
@@ -275,5 +275,5 @@ module _ {p : Player} {ended : Bool} {input : List ℕ} {from : ℕ} {out : List
             ∙ (λ i. says text (awaiting texts sizes (s .monitor) (sym counted i) (sym also i)) rest))
             lays turned);
         within = framed .ends;
-        room = omega (arith, lays .place, end-within (length held) filled text (going .room), lays-length lays);
+        room = omega (arith, lays-room (going .room) lays, lays-length lays);
       }
