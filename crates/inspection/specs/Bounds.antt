@@ -6,10 +6,8 @@ use Prim.Native.Nat.{ℕ, zero, suc, _+_, _*_, _^_, _<_, _≤_}
 use native.Mathlib.Nat.{suc-mul}
 use native.Mathlib.Omega.{arith}
 use lib.Dec.{eqb}
-use lib.ListN.{length, take, drop, length-append, length-take, length-replicate}
-use Rattle.refusals.specs.declared.Refusal.{Refusal}
+use lib.ListN.{length, take, length-append, length-replicate}
 use Rattle.refusals.specs.declared.Answer.{Answer}
-use Rattle.refusals.specs.Numbering.{numberOf}
 use Rattle.bits.specs.Lists.{length-list}
 use Rattle.bits.specs.Reading.{Got, got, refused}
 use Rattle.table.specs.declared.Entry.{Entry}
@@ -18,19 +16,20 @@ use Rattle.table.specs.Limits.{limits}
 use Rattle.table.specs.Kinds.{kindOf, labelled}
 use Rattle.table.specs.Tables.{entryAt}
 use Rattle.script.specs.Reader.{scriptOf, labelOf, textOf}
-use Rattle.parts.specs.Within.{label-of-short}
+use Rattle.roundtrip.specs.ReadAgain.{script-few}
+use Rattle.parts.specs.Within.{label-text-short}
 use Rattle.reach.specs.declared.Reach.{Reach}
 use Rattle.reach.specs.Reaching.{reachFault}
 use Rattle.reach.specs.Spreading.{marksOf, reachReply, reachOf}
-use Rattle.lines.specs.Text.{decimal, alarmWord, scriptWord, refusedWord, line, scriptLine, scriptRefusedLine}
+use Rattle.lines.specs.Text.{decimal, alarmWord, line}
 use Rattle.lines.specs.Laying.{Lays, laid}
 use Rattle.lines.specs.Decimals.{decimal-length}
 use Rattle.lines.specs.Spaced.{spaced, line-length}
+use Rattle.lines.specs.Lengths.{script-length, script-refused-length}
 use Rattle.lines.specs.Whole.{laid-whole}
 use Rattle.inspection.specs.Inspected.{propertyWord, entriesWord, importsWord, clockWord, yesOrNo, markedFrom, ruleWord, ruleLines, rulesTo, linesOf, inspected}
 use Rattle.inspection.specs.Marks.{marksText}
 use Rattle.inspection.specs.Rules.{linesAt}
-use Rattle.inspection.specs.Scripts.{script-few}
 
 -- marks whose numbers have at most so many digits
 marks-length : (d i : ℕ) (marks : List Bool) → i + length marks ≤ 10 ^ suc d → length (marksText i marks) ≤ length marks * (d + 2)
@@ -68,17 +67,13 @@ answer-length : (b : Bool) → length (yesOrNo b) ≤ 3
 answer-length true = omega arith
 answer-length false = omega arith
 
--- a label
-label-length : (s : List ℕ) (k : ℕ) → length (textOf s (labelOf s k)) ≤ 32
-label-length s k = rw (length-take (labelOf s k .span .size) (drop (labelOf s k .span .from) s)) (omega (arith, label-of-short s k))
-
 -- the four lines of a rule
 rule-length : (s : List ℕ) (k : ℕ) (e : Entry) (r : Reach) → k < 1000 → length (r .entries) ≡ 128 → length (r .imports) ≡ 48 → length (ruleLines s k e r) ≤ 740
 unfolding ruleLines
 rule-length s k e r low entries imports =
     let name = text-length k (ruleWord e) (textOf s (labelOf s k)) low in
     let word = word-length (eqb (kindOf e) 23) in
-    let label = label-length s k in
+    let label = label-text-short s k in
     let entered = marked-length 2 k entriesWord (r .entries) low (omega arith) in
     let imported = marked-length 1 k importsWord (r .imports) low (omega arith) in
     let clock = text-length k clockWord (yesOrNo (r .clock)) low in
@@ -111,55 +106,14 @@ rules-length s t (suc k) low =
     let one = at-length s t k (omega arith) in
     simp length-append (omega arith)
 
--- a refusal's number has at most two digits
-number-low : (r : Refusal) → numberOf r < 100
-number-low Refusal.TooLong = omega arith
-number-low Refusal.Cut = omega arith
-number-low Refusal.Format = omega arith
-number-low Refusal.EntryCount = omega arith
-number-low Refusal.ImportCount = omega arith
-number-low Refusal.VariableCount = omega arith
-number-low Refusal.HeaderBits = omega arith
-number-low Refusal.TableLimits = omega arith
-number-low Refusal.Initial = omega arith
-number-low Refusal.Kind = omega arith
-number-low Refusal.Operand = omega arith
-number-low Refusal.Sort = omega arith
-number-low Refusal.Padding = omega arith
-number-low Refusal.Label = omega arith
-number-low Refusal.LeftOver = omega arith
-number-low Refusal.NoRoom = omega arith
-number-low Refusal.Range = omega arith
-number-low Refusal.StepCut = omega arith
-number-low Refusal.Time = omega arith
-number-low Refusal.StepImport = omega arith
-number-low Refusal.ImportOrder = omega arith
-number-low Refusal.ConditionReport = omega arith
-number-low Refusal.StepPadding = omega arith
-number-low Refusal.StepLeftOver = omega arith
-number-low Refusal.Unsound = omega arith
-number-low Refusal.NoEntry = omega arith
-
--- the first line
-first-length : (n : ℕ) → n < 1000 → length (scriptLine n) ≤ 11
-unfolding scriptLine spaced
-first-length n low = let digits = decimal-length 2 n low in rw (line-length scriptWord (decimal n ∷ [])) (simp length-append (omega arith))
-
--- a refused script's line
-refused-length : (r : Refusal) → length (scriptRefusedLine r) ≤ 18
-unfolding scriptRefusedLine spaced
-refused-length r =
-    let digits = decimal-length 1 (numberOf r) (number-low r) in
-    rw (line-length scriptWord (refusedWord ∷ decimal (numberOf r) ∷ [])) (simp length-append (omega arith))
-
 -- what is printed
 lines-length : (s : List ℕ) (m : Got Table) → ((t : Table) (end : ℕ) → m ≡ got t end → t .n ≤ limits .entries) → length (linesOf s m) ≤ 98304
 lines-length s (got t end) few =
     let entries = few t end refl in
-    let first = first-length (t .n) (omega arith) in
+    let first = script-length 2 (t .n) (omega arith) in
     let rules = rules-length s t (t .n) (omega arith) in
     simp length-append (omega arith)
-lines-length s (refused r) few = let line = refused-length r in omega arith
+lines-length s (refused r) few = let line = script-refused-length r in omega arith
 
 -- 128 rules of 740 bytes, and the first line
 pub inspected-fits : (script : List ℕ) → length (inspected script) ≤ 98304

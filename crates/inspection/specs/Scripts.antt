@@ -1,5 +1,5 @@
 -- What is shown of a script that was read, and of one that was refused.
-use mathlib.Core.List.{List, [], _∷_, _++_}
+use mathlib.Core.List.{List, _++_}
 use mathlib.Core.Path.{_≡_, refl, sym, _∙_, ap, subst}
 use Prim.Native.Nat.{ℕ, _≤_}
 use native.Mathlib.Omega.{arith}
@@ -9,10 +9,9 @@ use Rattle.refusals.specs.Accepting.{not-accepted}
 use Rattle.bits.specs.Reading.{Got, got, refused}
 use Rattle.table.specs.declared.Table.{Table}
 use Rattle.table.specs.Limits.{limits}
-use Rattle.table.specs.Sound.{sound-table}
 use Rattle.script.specs.declared.Script.{Script}
 use Rattle.script.specs.Reader.{scriptOf, scriptReply, readScript}
-use Rattle.roundtrip.specs.ReadAgain.{read-sound}
+use Rattle.roundtrip.specs.ReadAgain.{script-few}
 use Rattle.lines.specs.Text.{scriptLine, scriptRefusedLine}
 use Rattle.lines.specs.Laying.{Lays, lays-then}
 use Rattle.inspection.specs.Inspected.{rulesTo, linesOf, inspected}
@@ -28,11 +27,7 @@ refused-lines : (s : List ℕ) (m : Got Table) (r : Refusal) → scriptReply m .
 refused-lines s (got t end) r bad = not-accepted r (sym bad)
 refused-lines s (refused f) r bad = ap scriptRefusedLine (cc bad)
 
--- a script that is read has no more entries than there are slots
-pub script-few : (s : List ℕ) (t : Table) (end : ℕ) → scriptOf s ≡ got t end → t .n ≤ limits .entries
-script-few s t end e = sound-table t (read-sound s t end e) .within .entries
-
--- nor has the empty table
+-- a script that is read has no more entries than there are slots, nor has the empty table
 reply-few : (m : Got Table) → ((t : Table) (end : ℕ) → m ≡ got t end → t .n ≤ limits .entries) → scriptReply m .table .n ≤ limits .entries
 reply-few (got t end) few = few t end refl
 reply-few (refused r) few = omega arith

@@ -104,9 +104,13 @@ end-within room at (b ∷ text) within =
       | no h ↦ rw (le-ltb at room (omega arith)) (end-within room at text within)
     ]
 
+-- so a text that is laid ends within the room
+pub lays-room : {dst after text : List ℕ} {at next : ℕ} → at ≤ length dst → Lays dst at text after next → next ≤ length dst
+lays-room {dst} {text = text} {at} within lays = subst (λ (n : ℕ). n ≤ length dst) (sym (lays .place)) (end-within (length dst) at text within)
+
 -- a text laid from the first byte on, and its end within the room
 pub lays-within : {dst after text : List ℕ} {next : ℕ} → Lays dst 0 text after next → Lays dst 0 text after next × (next ≤ length dst)
-lays-within {dst} {text = text} lays = (lays, subst (λ (n : ℕ). n ≤ length dst) (sym (lays .place)) (end-within (length dst) 0 text (omega arith)))
+lays-within lays = (lays, lays-room (omega arith) lays)
 
 -- two layings of one text into one destination come to the same place and leave the same bytes
 pub lays-same : {dst text one two : List ℕ} {at next end : ℕ} → Lays dst at text one next → Lays dst at text two end → (next ≡ end) × (one ≡ two)

@@ -3,4 +3,5 @@ pub mod Text
 pub mod Laying
 pub mod Decimals
 pub mod Spaced
+pub mod Lengths
 pub mod Whole

@@ -7,7 +7,7 @@ use native.Mathlib.Nat.{add-comm}
 use native.Mathlib.Omega.{arith}
 use borrow.Author.Tests.{leb-true}
 use lib.Dec.{leb, ltb}
-use lib.ListN.{length, take, drop, length-drop}
+use lib.ListN.{length, take, drop, length-take, length-drop}
 use lib.Seq.{take-all}
 use Rattle.refusals.specs.declared.Refusal.{Refusal}
 use Rattle.refusals.specs.declared.Answer.{Answer}
@@ -22,7 +22,7 @@ use Rattle.table.specs.Tables.{entryAt, labelsBefore}
 use Rattle.script.specs.declared.Span.{Span}
 use Rattle.script.specs.declared.Label.{Label}
 use Rattle.script.specs.Labels.{printable, text, label, labels}
-use Rattle.script.specs.Reader.{packedTable, scriptOf, noLabel, labelSpan, labelReply, labelIn, labelOf, blockAfter, blockIn, blockOf}
+use Rattle.script.specs.Reader.{packedTable, scriptOf, noLabel, labelSpan, labelReply, labelIn, labelOf, textOf, blockAfter, blockIn, blockOf}
 use Rattle.bits.specs.Giving.{Gives, gives-value, gives-refused, gives-onward, gives-field}
 use Rattle.reader.specs.Scans.{spanAfter, spanIn, blockSpan}
 use Rattle.reader.specs.ScanLaws.{block-begins}
@@ -91,7 +91,13 @@ label-of-inside s k = label-has s (Inside s) (omega arith) (label-inside s) k
 pub label-of-short : (s : List ℕ) (k : ℕ) → labelOf s k .span .size ≤ limits .label
 label-of-short s k = label-has s (λ span. span .size ≤ limits .label) (omega arith) (label-short s) k
 
--- and so does the block
+-- so a label's text is: "a label at most 32 bytes"
+pub label-text-short : (s : List ℕ) (k : ℕ) → length (textOf s (labelOf s k)) ≤ limits .label
+label-text-short s k =
+    let span = labelOf s k .span in
+    omega (arith, length-take (span .size) (drop (span .from) s), label-of-short s k)
+
+-- the block stands within the bytes too
 after-inside : (s : List ℕ) (m : Got Table) → packedTable s 0 ≡ m → Inside s (spanAfter s m)
 after-inside s (got t at) there = omega (arith, block-begins s t at there .0, block-begins s t at there .1)
 after-inside s (refused r) there = omega arith
@@ -117,13 +123,17 @@ pub block-text : (s : List ℕ) → take (blockSpan s .size) (drop (blockSpan s 
 unfolding blockSpan blockOf
 block-text s = in-text s (scriptOf s)
 
+-- the bytes from a place up to another one
+pub part-of : (s : List ℕ) (from size : ℕ) → take (from + size - from) (drop from s) ≡ take size (drop from s)
+part-of s from size = ap (λ (n : ℕ). take n (drop from s)) {x = from + size - from} {y = size} (omega arith)
+
 -- a part that was found is the part that the definition names: it stands within the bytes, holds the text, and stands at its place
 module _ (s : List ℕ) {x y : Span} (is : x ≡ y) where
   pub part-inside : Inside s y → Inside s x
   part-inside inside = subst (Inside s) (sym is) inside
 
   pub part-text : take (x .from + x .size - x .from) (drop (x .from) s) ≡ take (y .size) (drop (y .from) s)
-  part-text = ap (λ (n : ℕ). take n (drop (x .from) s)) {x = x .from + x .size - x .from} {y = x .size} (omega arith) ∙ ap (λ (z : Span). take (z .size) (drop (z .from) s)) is
+  part-text = part-of s (x .from) (x .size) ∙ ap (λ (z : Span). take (z .size) (drop (z .from) s)) is
 
   pub part-place : (start : ℕ) → x .from + start ≡ start + y .from
   part-place start = add-comm (x .from) start ∙ ap (λ (z : Span). start + z .from) is

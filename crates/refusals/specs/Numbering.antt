@@ -1,6 +1,7 @@
 -- "Refusal numbers and their order": the number of each refusal, and that the first fault decides.
 use mathlib.Core.Bool.{Bool, true, false}
-use Prim.Native.Nat.{ℕ, zero, suc}
+use Prim.Native.Nat.{ℕ, zero, suc, _<_}
+use native.Mathlib.Omega.{arith}
 use Rattle.refusals.specs.declared.Answer.{Answer}
 use Rattle.refusals.specs.declared.Answer.the-variants.{Accepted, Refused}
 use Rattle.refusals.specs.declared.Refusal.{Refusal}
@@ -34,6 +35,35 @@ numberOf StepPadding = 26
 numberOf StepLeftOver = 27
 numberOf Unsound = 29
 numberOf NoEntry = 30
+
+-- a refusal's number has at most two digits
+pub number-low : (r : Refusal) → numberOf r < 100
+number-low TooLong = omega arith
+number-low Cut = omega arith
+number-low Format = omega arith
+number-low EntryCount = omega arith
+number-low ImportCount = omega arith
+number-low VariableCount = omega arith
+number-low HeaderBits = omega arith
+number-low TableLimits = omega arith
+number-low Initial = omega arith
+number-low Kind = omega arith
+number-low Operand = omega arith
+number-low Sort = omega arith
+number-low Padding = omega arith
+number-low Label = omega arith
+number-low LeftOver = omega arith
+number-low NoRoom = omega arith
+number-low Range = omega arith
+number-low StepCut = omega arith
+number-low Time = omega arith
+number-low StepImport = omega arith
+number-low ImportOrder = omega arith
+number-low ConditionReport = omega arith
+number-low StepPadding = omega arith
+number-low StepLeftOver = omega arith
+number-low Unsound = omega arith
+number-low NoEntry = omega arith
 
 -- accepted if so, else that refusal
 abbrev pub unless : Bool → Refusal → Answer

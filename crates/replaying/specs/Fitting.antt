@@ -6,21 +6,18 @@ use Prim.Native.Nat.{ℕ, zero, suc, _*_, _^_, _<_, _≤_}
 use native.Mathlib.Decide.{decLt}
 use native.Mathlib.Omega.{arith}
 use borrow.Author.Tests.{lt-ltb, le-ltb}
-use lib.ListN.{length, getD, take, drop, length-append, length-take, getD-replicate}
+use lib.ListN.{length, getD, drop, length-append, length-take, getD-replicate}
 use Rattle.values.specs.declared.Truth.{Truth}
 use Rattle.values.specs.declared.Outcome.{Outcome}
 use Rattle.refusals.specs.declared.Refusal.{Refusal}
 use Rattle.refusals.specs.declared.Answer.{Answer}
 use Rattle.refusals.specs.Numbering.{numberOf}
 use Rattle.refusals.specs.Accepting.{not-accepted}
-use Rattle.bits.specs.Lists.{getD-list}
 use Rattle.bits.specs.Reading.{Got, got, refused}
 use Rattle.table.specs.declared.Table.{Table}
 use Rattle.table.specs.Limits.{limits}
-use Rattle.table.specs.Sound.{sound-table}
-use Rattle.script.specs.Reader.{scriptOf, labelOf}
-use Rattle.roundtrip.specs.ReadAgain.{read-sound}
-use Rattle.parts.specs.Within.{label-of-short}
+use Rattle.script.specs.Reader.{scriptOf}
+use Rattle.roundtrip.specs.ReadAgain.{script-few}
 use Rattle.step.specs.declared.Taken.{Taken}
 use Rattle.monitor.specs.declared.Monitor.{Monitor}
 use Rattle.monitor.specs.declared.Stepped.{Stepped}
@@ -28,66 +25,23 @@ use Rattle.monitor.specs.Keeping.{unsound}
 use Rattle.monitor.specs.Stepping.{resultIn, monitorAfter, advanced, stepReply, takenBy, soundStep, stepOf}
 use Rattle.monitor.specs.Replying.{taken-time}
 use Rattle.monitor.specs.Walking.{slots-enough}
-use Rattle.lines.specs.Text.{decimal, scriptWord, refusedWord, line, scriptLine, scriptRefusedLine}
+use Rattle.lines.specs.Text.{decimal, refusedWord, line}
 use Rattle.lines.specs.Decimals.{decimal-length}
 use Rattle.lines.specs.Spaced.{spaced, line-length}
+use Rattle.lines.specs.Lengths.{number-length, script-length, script-refused-length}
 use Rattle.stream.specs.Lines.{stepsWord, refusedLine, cutLine, lastLine, wordFor, wordLine, resultLine}
 use Rattle.stream.specs.Records.{Next, end, stops, whole, nextRecord}
-use Rattle.stream.specs.Replay.{rowLines, labelText, closing}
+use Rattle.stream.specs.Replay.{rowLines, closing}
 use Rattle.replaying.specs.declared.Stage.{Stage}
 use Rattle.replaying.specs.declared.Player.{Player}
+use Rattle.replaying.specs.Texts.{sizes-short}
 use Rattle.replaying.specs.Moving.{textAt, textKept, timeOf, saidOf, replyLines, mostSteps, onceMore, acceptedAfter, refusedAfter, newPlayer, begun, onward, finished, Move, waits, says, openingLine, openedBy, scriptMove, stepMove, moveAt, moveOf, moveRoom}
 
--- so many bytes of a text are no more than that
-take-most : (n : ℕ) (text : List ℕ) → length (take n text) ≤ n
-take-most n text = rw (length-take n text) (omega arith)
-
--- a refusal's number has at most two digits
-number-low : (r : Refusal) → numberOf r < 100
-number-low Refusal.TooLong = omega arith
-number-low Refusal.Cut = omega arith
-number-low Refusal.Format = omega arith
-number-low Refusal.EntryCount = omega arith
-number-low Refusal.ImportCount = omega arith
-number-low Refusal.VariableCount = omega arith
-number-low Refusal.HeaderBits = omega arith
-number-low Refusal.TableLimits = omega arith
-number-low Refusal.Initial = omega arith
-number-low Refusal.Kind = omega arith
-number-low Refusal.Operand = omega arith
-number-low Refusal.Sort = omega arith
-number-low Refusal.Padding = omega arith
-number-low Refusal.Label = omega arith
-number-low Refusal.LeftOver = omega arith
-number-low Refusal.NoRoom = omega arith
-number-low Refusal.Range = omega arith
-number-low Refusal.StepCut = omega arith
-number-low Refusal.Time = omega arith
-number-low Refusal.StepImport = omega arith
-number-low Refusal.ImportOrder = omega arith
-number-low Refusal.ConditionReport = omega arith
-number-low Refusal.StepPadding = omega arith
-number-low Refusal.StepLeftOver = omega arith
-number-low Refusal.Unsound = omega arith
-number-low Refusal.NoEntry = omega arith
-
--- the first line of a script
-script-length : (n : ℕ) → n < 1000 → length (scriptLine n) ≤ 11
-unfolding scriptLine spaced
-script-length n low = let digits = decimal-length 2 n low in rw (line-length scriptWord (decimal n ∷ [])) (simp length-append (omega arith))
-
--- that of a refused script
-script-refused-length : (r : Refusal) → length (scriptRefusedLine r) ≤ 18
-unfolding scriptRefusedLine spaced
-script-refused-length r =
-    let digits = decimal-length 1 (numberOf r) (number-low r) in
-    rw (line-length scriptWord (refusedWord ∷ decimal (numberOf r) ∷ [])) (simp length-append (omega arith))
-
--- that of a refused step
+-- the line of a refused step
 refused-length : (r : Refusal) → length (refusedLine r) ≤ 11
 unfolding refusedLine spaced
 refused-length r =
-    let digits = decimal-length 1 (numberOf r) (number-low r) in
+    let digits = number-length r in
     rw (line-length refusedWord (decimal (numberOf r) ∷ [])) (simp length-append (omega arith))
 
 -- "cut"
@@ -184,7 +138,7 @@ pub reply-fits : (texts sizes : List ℕ) → ((k : ℕ) → k < limits .slots �
 unfolding replyLines
 reply-fits texts sizes short m bytes =
     said-length (textKept texts sizes) (stepOf m bytes) (stepOf m bytes .answer)
-    (λ k below. omega (arith, take-most (getD sizes k 0) (drop (textAt k) texts), short k below))
+    (λ k below. omega (arith, length-take (getD sizes k 0) (drop (textAt k) texts), short k below))
     (step-bounded m bytes)
 
 -- a player whose texts are no longer than a label, and whose counts have 64 bits
@@ -199,14 +153,7 @@ new-fits = record { sizes = λ k below. rw (getD-replicate {A = ℕ} (limits .sl
 
 -- and one that has its script
 begun-fits : (script : List ℕ) (t : Table) → Fit (begun script t)
-begun-fits script t =
-    record {
-      sizes = λ k below.
-          rw (getD-list (limits .slots) (λ (i : ℕ). length (labelText script i)) k 0 below)
-          (omega (arith, take-most (labelOf script k .span .size) (drop (labelOf script k .span .from) script), label-of-short script k));
-      accepted = omega arith;
-      refused = omega arith;
-    }
+begun-fits script t = record { sizes = λ k below. sizes-short script k; accepted = omega arith; refused = omega arith }
 
 -- one more counted still has 64 bits
 once-fits : (count : ℕ) → count < 2 ^ 64 → onceMore count < 2 ^ 64
@@ -249,13 +196,13 @@ module _ (p : Player) (fit : Fit p) where
       → Fits (says (openingLine m) (openedBy p script m) rest)
   opened-fits script rest (got t at) few =
       let entries = few t at refl in
-      let line = script-length (t .n) (omega arith) in
+      let line = script-length 2 (t .n) (omega arith) in
       (omega arith, begun-fits script t)
   opened-fits script rest (refused r) few = let line = script-refused-length r in (omega arith, finished-fits)
 
   -- a move before the script is read
   script-fits : (ended : Bool) (next : Next) → Fits (scriptMove p ended next)
-  script-fits ended (whole script rest) = opened-fits script rest (scriptOf script) (λ t at e. sound-table t (read-sound script t at e) .within .entries)
+  script-fits ended (whole script rest) = opened-fits script rest (scriptOf script) (script-few script)
   script-fits true end = (omega (arith, cut-length), finished-fits)
   script-fits true stops = (omega (arith, cut-length), finished-fits)
   script-fits false end = tt

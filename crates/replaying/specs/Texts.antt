@@ -10,8 +10,7 @@ use Rattle.bits.specs.Bits.{listTo}
 use Rattle.bits.specs.Lists.{length-list, getD-list}
 use Rattle.bits.specs.Filled.{list-is, getD-padded}
 use Rattle.table.specs.Limits.{limits}
-use Rattle.script.specs.Reader.{labelOf}
-use Rattle.parts.specs.Within.{label-of-short}
+use Rattle.parts.specs.Within.{label-text-short}
 use Rattle.stream.specs.Replay.{labelText}
 use Rattle.replaying.specs.Moving.{textAt, textKept, textsOf, sizesOf}
 
@@ -54,12 +53,6 @@ filled-zeros {n} {m} next so later none =
 pub filled-all : {n : ℕ} {f : ℕ → ℕ} {l : List ℕ} → FilledTo n f n l → l ≡ listTo n f
 filled-all {n} {f} {l} so = list-is n f 0 l (so .long) (so .filled)
 
--- "a label at most 32 bytes"
-pub text-short : (script : List ℕ) (k : ℕ) → length (labelText script k) ≤ limits .label
-text-short script k =
-    let span = labelOf script k .span in
-    omega (arith, length-take (span .size) (drop (span .from) script), label-of-short script k)
-
 -- what stands at a byte of the texts
 abbrev pub textByte : List ℕ → ℕ → ℕ
 textByte script i = getD (labelText script (i / limits .label)) (i % limits .label) 0
@@ -86,7 +79,7 @@ pub record Putting (script : List ℕ) (k : ℕ) (text texts : List ℕ) (i : �
 -- none yet
 pub putting-none : {script text texts : List ℕ} {k : ℕ} → k < limits .slots → TextsTo script (textAt k) texts → text ≡ labelText script k → Putting script k text texts 0
 putting-none {script} {text} {texts} {k} slot so is =
-    record { slot = slot; is = is; short = omega (arith, ap length is, text-short script k); within = omega arith; put = filled-at (textAt k + 0) so (omega arith) }
+    record { slot = slot; is = is; short = omega (arith, ap length is, label-text-short script k); within = omega arith; put = filled-at (textAt k + 0) so (omega arith) }
 
 -- one more
 pub putting-next : {script text texts : List ℕ} {k i : ℕ} → Putting script k text texts i → i < length text
@@ -132,7 +125,7 @@ kept-all so all = (filled-all (filled-at 4096 (so .put) (omega arith)), filled-a
 -- a text that is kept is the label's
 pub text-kept : (script : List ℕ) (k : ℕ) → k < limits .slots → textKept (textsOf script) (sizesOf script) k ≡ labelText script k
 text-kept script k slot =
-    let short = text-short script k in
+    let short = label-text-short script k in
     let size = getD (sizesOf script) k 0 in
     let from = drop (textAt k) (textsOf script) in
     let sized : size ≡ length (labelText script k) = getD-list (limits .slots) _ k 0 slot in
@@ -148,7 +141,7 @@ pub sizes-short : (script : List ℕ) (k : ℕ) → getD (sizesOf script) k 0 �
 sizes-short script k =
     let sizes : ℕ → ℕ = λ i. length (labelText script i) in
     elim (decLt k (limits .slots)) [
-      | yes slot ↦ rw (getD-list (limits .slots) sizes k 0 slot) (text-short script k)
+      | yes slot ↦ rw (getD-list (limits .slots) sizes k 0 slot) (label-text-short script k)
       | no past ↦ omega (arith, List·getD-eq-default (sizesOf script) 0 {n = k} (omega (arith, length-list (limits .slots) sizes)))
     ]
 

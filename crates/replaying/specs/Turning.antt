@@ -12,10 +12,11 @@ use lib.Seq.{drop-length}
 use Rattle.bits.specs.Reading.{Got, got, refused}
 use Rattle.table.specs.declared.Table.{Table}
 use Rattle.script.specs.Reader.{scriptOf}
+use Rattle.parts.specs.Within.{part-of}
 use Rattle.monitor.specs.declared.Monitor.{Monitor}
 use Rattle.monitor.specs.declared.Stepped.{Stepped}
 use Rattle.monitor.specs.Stepping.{stepOf}
-use Rattle.lines.specs.Laying.{endOf, Lays, lays-none, lays-then, lays-length, end-within}
+use Rattle.lines.specs.Laying.{endOf, Lays, lays-none, lays-then, lays-length, lays-room}
 use Rattle.stream.specs.Lines.{cutLine}
 use Rattle.stream.specs.Records.{Next, end, stops, whole, nextRecord}
 use Rattle.stream.specs.Replay.{closing}
@@ -23,8 +24,9 @@ use Rattle.replaying.specs.declared.Stage.{Stage}
 use Rattle.replaying.specs.declared.Player.{Player}
 use Rattle.replaying.specs.declared.Turn.{Turn}
 use Rattle.replaying.specs.declared.framing.Record.{Record}
-use Rattle.replaying.specs.Moving.{textKept, replyLines, acceptedAfter, refusedAfter, onward, finished, openingLine, openedBy, Move, waits, says, scriptMove, stepMove, moveAt, moveOf, moveRoom, Moves, full, idle, move, isOver, Turned}
-use Rattle.replaying.specs.Framing.{nextIn, Framed}
+use Rattle.replaying.specs.Moving.{textKept, replyLines, acceptedAfter, refusedAfter, onward, finished, openingLine, openedBy, waits, says, scriptMove, stepMove, moveAt, moveOf, moveRoom, Moves, full, idle, move, isOver, Turned}
+use Rattle.replaying.specs.Framing.{Framed}
+use Rattle.replaying.specs.Pieces.{over-waits}
 
 -- no whole record comes next
 abbrev pub NoWhole : Next → Type 0
@@ -81,9 +83,7 @@ module _ {p : Player} {ended : Bool} {input : List ℕ} {from : ℕ} {out : List
 
   -- a player that is over has no move
   turned-over : p .stage ≡ Stage.Over → from ≤ length input → start ≤ length out → Turned p ended input from out start out (staying p true from start)
-  unfolding moveOf
-  turned-over stage within room =
-      turned-none (idle (ap (λ (s : Stage). moveAt s p ended (nextRecord (drop from input))) stage)) within room true (ap isOver (sym stage))
+  turned-over stage within room = turned-none (idle (over-waits p ended (drop from input) stage)) within room true (ap isOver (sym stage))
 
 module _ {p : Player} {ended : Bool} {input : List ℕ} {from : ℕ} {out : List ℕ} {start : ℕ} where
   -- all is printed, and all of the input is taken
@@ -91,7 +91,7 @@ module _ {p : Player} {ended : Bool} {input : List ℕ} {from : ℕ} {out : List
       → Lays out start text mid next → Turned p ended input from out start mid (staying (finished p) true (length input) next)
   turned-last {text} {mid} {next} within room is lays =
       turned-after within room (is ∙ ap (says text (finished p)) (sym (drop-length input))) lays
-      (turned-over refl (omega arith) (omega (arith, lays .place, end-within (length out) start text within, lays-length lays)))
+      (turned-over refl (omega arith) (omega (arith, lays-room within lays, lays-length lays)))
 
 -- a record that is not whole stops inside
 not-whole : (b : Bool) (bytes rest : List ℕ) → NoWhole (cond b (whole bytes rest) stops) → cond b (whole bytes rest) stops ≡ stops
@@ -138,10 +138,6 @@ cut-script p (whole bytes rest) none = absurd none
 last-lines : (p : Player) (cut : Bool) → stepMove p true (cond cut stops end) ≡ says (closing cut (record { accepted = p .accepted; refused = p .refused })) (finished p) []
 last-lines p true = refl
 last-lines p false = refl
-
--- the bytes from a place up to another one
-part-of : (input : List ℕ) (at size : ℕ) → take (at + size - at) (drop at input) ≡ take size (drop at input)
-part-of input at size = ap (λ (n : ℕ). take n (drop at input)) {x = at + size - at} {y = size} (omega arith)
 
 -- an input that goes on
 goes-on : (ended : Bool) → not ended ≡ true → ended ≡ false
@@ -279,5 +275,5 @@ module _ {p : Player} {ended : Bool} {input : List ℕ} {from : ℕ} {out : List
             ∙ (λ i. says text (awaiting texts sizes (s .monitor) (sym counted i) (sym also i)) rest))
             lays turned);
         within = framed .ends;
-        room = omega (arith, lays .place, end-within (length held) filled text (going .room), lays-length lays);
+        room = omega (arith, lays-room (going .room) lays, lays-length lays);
       }

@@ -11,7 +11,6 @@ use Rattle.values.specs.declared.Outcome.{Outcome}
 use Rattle.refusals.specs.declared.Answer.{Answer}
 use Rattle.bits.specs.Reading.{Got, got, refused}
 use Rattle.table.specs.declared.Table.{Table}
-use Rattle.table.specs.Limits.{limits}
 use Rattle.table.specs.Tables.{Shaped}
 use Rattle.table.specs.Faults.{tableFault}
 use Rattle.table.specs.Sound.{sound-table}
@@ -20,7 +19,6 @@ use Rattle.roundtrip.specs.ReadAgain.{read-shaped, read-sound}
 use Rattle.step.specs.Steps.{Step}
 use Rattle.history.specs.History.{History}
 use Rattle.history.specs.Offered.{offered, grown, historyOf}
-use Rattle.monitor.specs.declared.Monitor.{Monitor}
 use Rattle.monitor.specs.declared.Started.{Started}
 use Rattle.monitor.specs.declared.Stepped.{Stepped}
 use Rattle.knowing.specs.Recalling.{recallOf}
@@ -29,11 +27,12 @@ use Rattle.knowing.specs.Answering.{replyFor, recall-table, recall-last, slot-r
 use Rattle.stream.specs.Lines.{resultLine}
 use Rattle.stream.specs.Records.{whole, nextRecord, recordsOf}
 use Rattle.stream.specs.Cutting.{rest-shorter, by-next}
-use Rattle.stream.specs.Replay.{rowLines, labelText, stepLines, Counts, tallied, stepsFrom, scriptLines, streamLines, replayed}
+use Rattle.stream.specs.Replay.{rowLines, stepLines, Counts, tallied, stepsFrom, scriptLines, streamLines, replayed}
 use Rattle.replaying.specs.declared.Stage.{Stage}
 use Rattle.replaying.specs.declared.Player.{Player}
-use Rattle.replaying.specs.Moving.{textKept, textsOf, sizesOf, replyLines, mostSteps, onceMore, newPlayer, begun, onward, says, moveAt, moveOf, moveRoom, openingLine, openedBy, played}
+use Rattle.replaying.specs.Moving.{textKept, textsOf, sizesOf, replyLines, mostSteps, onceMore, newPlayer, begun, onward, says, moveAt, moveOf, openingLine, openedBy, played}
 use Rattle.replaying.specs.Texts.{text-kept}
+use Rattle.replaying.specs.Turning.{awaiting}
 use Rattle.replaying.specs.Fitting.{new-fits}
 use Rattle.replaying.specs.Pieces.{Plays, over, then, plays-same, over-waits, Run, run-plays}
 
@@ -58,17 +57,13 @@ record Countable (c : Counts) (bytes : ℕ) : Type 0 where
   accepted : c .accepted + bytes < 2 ^ 64
   refused : c .refused + bytes < 2 ^ 64
 
--- a player that has its script, by its monitor and its counts
-abbrev stepping : List ℕ → Monitor → Counts → Player
-stepping script m c = record { stage = Stage.Steps; texts = textsOf script; sizes = sizesOf script; monitor = m; accepted = c .accepted; refused = c .refused }
-
 -- the player that knows a history
 abbrev knowing : List ℕ → Table → History → Counts → Player
-knowing script t h c = stepping script (recallOf t h) c
+knowing script t h c = awaiting (textsOf script) (sizesOf script) (recallOf t h) (c .accepted) (c .refused)
 
 -- a player that begins knows the history of no step
 begun-knowing : (script : List ℕ) (t : Table) → Shaped t → tableFault t ≡ Answer.Accepted → begun script t ≡ knowing script t [] nothing
-begun-knowing script t shaped good = ap (λ (s : Started). stepping script (s .monitor) nothing) (start-recalls t shaped good)
+begun-knowing script t shaped good = ap (λ (s : Started). awaiting (textsOf script) (sizesOf script) (s .monitor) 0 0) (start-recalls t shaped good)
 
 -- one more is counted, where there is room for it
 counted : (count : ℕ) → count < mostSteps → onceMore count ≡ suc count

@@ -17,6 +17,7 @@ use Rattle.table.specs.declared.Table.{Table}
 use Rattle.table.specs.Limits.{limits}
 use Rattle.table.specs.Tables.{Shaped, labelsBefore}
 use Rattle.table.specs.Faults.{tableFault}
+use Rattle.table.specs.Sound.{sound-table}
 use Rattle.script.specs.Labels.{labels}
 use Rattle.script.specs.Reader.{packedTable, wholeScript, scriptOf, blockOf}
 use Rattle.script.specs.Writer.{tableParts, scriptBytes, blockFault, writerFault}
@@ -78,6 +79,10 @@ read-shaped s t end e = script-read s .told t end e .table .shaped
 -- and it is sound
 pub read-sound : (s : List ℕ) (t : Table) (end : ℕ) → scriptOf s ≡ got t end → tableFault t ≡ Answer.Accepted
 read-sound s t end e = script-read s .told t end e .table .sound
+
+-- so it has no more entries than there are slots
+pub script-few : (s : List ℕ) (t : Table) (end : ℕ) → scriptOf s ≡ got t end → t .n ≤ limits .entries
+script-few s t end e = sound-table t (read-sound s t end e) .within .entries
 
 -- "Script to table to script gives the same bytes"
 pub script-again : (s : List ℕ) → Bytes s → (t : Table) (end : ℕ) → scriptOf s ≡ got t end → scriptBytes t (blockOf s) ≡ s

@@ -1,5 +1,4 @@
 -- `replaying::turning::close` meets its contract: by whether the input has ended, and whether there is room.
-use native.Mathlib.Omega.{arith}
 use borrow.Author.Needs.{needs}
 use Rattle.replaying.specs.Turning.{close-full, close-waits, close-ends}
 use Rattle.replaying.proofs.turning.close.Statement.{statement}

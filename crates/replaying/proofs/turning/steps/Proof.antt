@@ -1,5 +1,4 @@
 -- `replaying::turning::steps` meets its contract. The loop's invariant: whatever turn follows from here is one from the start; the measure is how many bytes are left.
-use mathlib.Core.List.{[], _∷_}
 use mathlib.Core.Logic.{⊎-elim}
 use mathlib.Core.Path.{_≡_, refl, subst, sym, ap, _∙_}
 use lib.ListN.{length, length-map}
@@ -7,7 +6,6 @@ use Prim.Native.Nat.{_-_, _≤_}
 use native.Mathlib.Omega.{arith}
 use borrow.Author.Needs.{needs}
 use Rattle.monitor.specs.declared.Stepped.{Stepped}
-use Rattle.refusals.specs.declared.Answer.{Answer}
 use Rattle.lines.specs.Laying.{lays-length}
 use Rattle.replaying.specs.declared.framing.Record.{Record}
 use Rattle.replaying.specs.Framing.{Framed}
