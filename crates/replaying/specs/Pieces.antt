@@ -7,6 +7,7 @@ use Prim.Native.Nat.{ℕ, _-_, _<_, _≤_}
 use native.Mathlib.Omega.{arith}
 use lib.ListN.{length, getD, take, drop, length-append, length-drop}
 use Rattle.replies.specs.Plain.{never}
+use Rattle.lines.specs.Laying.{Lays, lays-same}
 use Rattle.lines.specs.Whole.{laid-whole}
 use Rattle.stream.specs.Records.{Next, end, whole, nextRecord}
 use Rattle.stream.specs.Cutting.{whole-more, rest-shorter, longest, long-begins}
@@ -110,6 +111,16 @@ moves-same {ended} {room} (move enough e one) (move {last = last} {left = left} 
     let same = same-move (sym f ∙ e) in
     let rest = moves-same one (coe 0 1 (i. Moves ended (room - length (same .0 i)) (same .1 i) (same .2 i) later last left) two) in
     ((λ i. sym (same .0) i ++ rest .0 i), rest .1, rest .2)
+
+-- two turns of a player on one input and one output take as many bytes, leave the same player, and fill the same bytes of the output
+pub turned-same : {p : Player} {ended : Bool} {input out one two : List ℕ} {from start : ℕ} {t u : Turn}
+    → Turned p ended input from out start one t → Turned p ended input from out start two u → (t ≡ u) × (one ≡ two)
+turned-same {ended = ended} {input = input} {out = out} {start = start} {t = t} {u = u} first second =
+    let same = moves-same (first .moves) (second .moves) in
+    let taken : t .taken ≡ u .taken = omega (arith, first .within, second .within, length-drop (t .taken) input, length-drop (u .taken) input, ap length (same .2)) in
+    let laid = lays-same (first .lays) (subst (λ (text : List ℕ). Lays out start text _ (u .filled)) (sym (same .0)) (second .lays)) in
+    let done = first .done ∙ ap (λ (q : Player). isOver (q .stage)) (same .1) ∙ sym (second .done) in
+    ((λ i. record { player = same .1 i; over = done i; taken = taken i; filled = laid .0 i }), laid .1)
 
 -- a run of the program: the player, the bytes that it holds, the pieces that are still to come, and what is printed from here on
 pub data Run : Player → List ℕ → List (List ℕ) → List ℕ → Type 0 where

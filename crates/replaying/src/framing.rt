@@ -22,7 +22,9 @@ pub(crate) fn record_at(input: &[u8], at: usize) -> Record
     if left == 1 {
         return Record::Stops;
     }
-    let size = input[at] as usize * 256 + input[at + 1] as usize;
+    let high = input[at] as usize;
+    let low = input[at + 1] as usize;
+    let size = high * 256 + low;
     if left - 2 < size {
         return Record::Stops;
     }

@@ -15,10 +15,12 @@ record-at-spec =
     (λ c. framed-byte _ _ (omega arith))
     (λ c. search needs)
     (λ c. omega (arith, c .shared-slice-known .given (c .before .before .before .args .at)))
-    (λ c. omega (arith, c .shared-slice-known .given (c .before .before .before .args .at)))
     (λ c. search needs)
     (λ c. search needs)
     (λ c. omega (arith, c .shared-slice-known2 .given (c .before .before .before .before .args .at + 1)))
+    (λ c.
+    let at = c .before .before .before .before .args .at in
+    omega (arith, c .shared-slice-known2 .given at, c .shared-slice-known2 .given (at + 1)))
     (λ c.
     let at = c .before .before .before .before .args .at in
     omega (arith, c .shared-slice-known2 .given at, c .shared-slice-known2 .given (at + 1)))

@@ -21,7 +21,11 @@ loop-holds : tie.Need-loop-holds Inv-loop μ-loop
 loop-holds c = (omega arith, lays-no-row _ _ _ _ _)
 
 loop-again : tie.Need-loop-again Inv-loop μ-loop
-loop-again c = (omega arith, search lays-next-result)
+loop-again c =
+    let laid = c .before .before in
+    let found = laid .before in
+    let d = found .before .before .before .before .before in
+    (omega arith, lays-next-result _ _ _ _ (d .loop .inv .1) (found .text-of .ensures) (laid .result-line .ensures))
 
 same-length : tie.Need-same-length Inv-loop μ-loop
 same-length c = lays-length (c .before .loop .inv .1)
