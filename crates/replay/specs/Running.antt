@@ -2,7 +2,7 @@
 use mathlib.Core.Bool.{Bool, true, false}
 use mathlib.Core.List.{List, [], _∷_, _++_, append-assoc, append-nil, flatten}
 use mathlib.Core.Path.{_≡_, refl, sym, _∙_, ap, subst, subst₂}
-use Prim.Native.Nat.{ℕ, _^_, _<_, _≤_}
+use Prim.Native.Nat.{ℕ, _^_, _<_}
 use native.Mathlib.Omega.{arith}
 use lib.ListN.{length, take, drop}
 use Rattle.replies.specs.Plain.{never}
@@ -10,8 +10,8 @@ use Rattle.stream.specs.Replay.{replayed}
 use Rattle.replaying.specs.declared.Stage.{Stage}
 use Rattle.replaying.specs.declared.Player.{Player}
 use Rattle.replaying.specs.declared.Turn.{Turn}
-use Rattle.replaying.specs.Moving.{newPlayer, moveRoom, isOver, Turned}
-use Rattle.replaying.specs.Pieces.{Run, reads, turns, closes, stops}
+use Rattle.replaying.specs.Moving.{newPlayer, Turned}
+use Rattle.replaying.specs.Pieces.{Run, reads, turns, closes, stops, over-stage}
 use Rattle.replaying.specs.Whole.{run-replayed}
 
 -- the pieces that were read so far, what was handed to write so far, and that a run from here on is the rest of a run from the first byte
@@ -29,22 +29,22 @@ no-piece : {X : Type 0} {piece : List ℕ} {pieces : List (List ℕ)} → _≡_ 
 no-piece e = absurd (let z : _≡_ {A = ℕ} 0 1 = cc e in omega arith)
 
 -- a turn, and then a run
-pub turn-then : {p : Player} {held out after said : List ℕ} {r : Turn} (ended : Bool) (pieces : List (List ℕ)) → moveRoom ≤ length out → Turned p ended held 0 out 0 after r
+pub turn-then : {p : Player} {held out after said : List ℕ} {r : Turn} (ended : Bool) (pieces : List (List ℕ)) → Turned p ended held 0 out 0 after r
     → (ended ≡ true → pieces ≡ []) → Run (r .player) (drop (r .taken) held) pieces said → Run p held pieces (take (r .filled) after ++ said)
-turn-then false pieces enough turn none run = turns enough turn run
-turn-then true [] enough turn none run = closes enough turn run
-turn-then true (piece ∷ pieces) enough turn none run = no-piece (none refl)
+turn-then false pieces turn none run = turns turn run
+turn-then true [] turn none run = closes turn run
+turn-then true (piece ∷ pieces) turn none run = no-piece (none refl)
 
 -- what a turn fills is handed to write
-abbrev pub running-turn : {p : Player} {held out after : List ℕ} {ended : Bool} {r : Turn} → Running p held ended → moveRoom ≤ length out → Turned p ended held 0 out 0 after r
+abbrev pub running-turn : {p : Player} {held out after : List ℕ} {ended : Bool} {r : Turn} → Running p held ended → Turned p ended held 0 out 0 after r
     → Running (r .player) (drop (r .taken) held) ended
-running-turn {after = after} {ended = ended} {r = r} running enough turn =
+running-turn {after = after} {ended = ended} {r = r} running turn =
     record {
       read = running .read;
       printed = running .printed ++ take (r .filled) after;
       onto = λ pieces said none run.
           subst (Run newPlayer [] (running .read ++ pieces)) (sym (append-assoc (running .printed) (take (r .filled) after) said))
-          (running .onto pieces (take (r .filled) after ++ said) none (turn-then ended pieces enough turn none run));
+          (running .onto pieces (take (r .filled) after ++ said) none (turn-then ended pieces turn none run));
     }
 
 -- the pieces with one more; after the end of the input nothing is read
@@ -72,12 +72,6 @@ running-read {was = was} piece running e still =
       onto = λ pieces said none run. read-then was running e (λ over. still over .0) (λ over. none (still over .1)) run;
     }
 
--- all lines are printed
-over-stage : (stage : Stage) → isOver stage ≡ true → stage ≡ Stage.Over
-over-stage Stage.Script e = never e
-over-stage Stage.Steps e = never e
-over-stage Stage.Over e = refl
-
 -- where all lines are printed, they are those that document 01 says of the bytes that were read
 pub running-over : {p : Player} {held : List ℕ} {ended : Bool} (running : Running p held ended) → p .stage ≡ Stage.Over → length (flatten (running .read)) < 2 ^ 64
     → running .printed ≡ replayed (flatten (running .read))
@@ -86,7 +80,7 @@ running-over running done few =
     run-replayed (subst₂ (Run newPlayer []) (append-nil (running .read)) (append-nil (running .printed)) run) few
 
 -- so they are after the turn that is the last
-pub running-last : {p : Player} {held out after : List ℕ} {ended : Bool} {r : Turn} (running : Running p held ended) → moveRoom ≤ length out → Turned p ended held 0 out 0 after r
+pub running-last : {p : Player} {held out after : List ℕ} {ended : Bool} {r : Turn} (running : Running p held ended) → Turned p ended held 0 out 0 after r
     → r .over ≡ true → length (flatten (running .read)) < 2 ^ 64 → running .printed ++ take (r .filled) after ≡ replayed (flatten (running .read))
-running-last {r = r} running enough turn over few =
-    running-over (running-turn running enough turn) (over-stage (r .player .stage) (sym (turn .done) ∙ over)) few
+running-last {r = r} running turn over few =
+    running-over (running-turn running turn) (over-stage (r .player .stage) (sym (turn .done) ∙ over)) few

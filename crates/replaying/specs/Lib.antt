@@ -7,4 +7,5 @@ pub mod Printing
 pub mod Turning
 pub mod Fitting
 pub mod Pieces
+pub mod Ending
 pub mod Whole

@@ -3,11 +3,12 @@ use mathlib.Core.Bool.{Bool, true, false}
 use mathlib.Core.List.{List, [], _∷_, _++_, append-assoc, append-nil, flatten}
 use mathlib.Core.Logic.{_⊎_, inl, inr}
 use mathlib.Core.Path.{_≡_, refl, sym, _∙_, ap, subst, subst₂}
-use Prim.Native.Nat.{ℕ, _-_, _<_, _≤_}
+use Prim.Native.Nat.{ℕ, _+_, _-_, _<_, _≤_}
 use native.Mathlib.Omega.{arith}
 use lib.ListN.{length, getD, take, drop, length-append, length-drop}
 use Rattle.replies.specs.Plain.{never}
 use Rattle.lines.specs.Laying.{Lays, lays-same}
+use Rattle.lines.specs.Laying.{laid, Lays}
 use Rattle.lines.specs.Whole.{laid-whole}
 use Rattle.stream.specs.Records.{Next, end, whole, nextRecord}
 use Rattle.stream.specs.Cutting.{whole-more, rest-shorter, longest, long-begins}
@@ -41,7 +42,7 @@ plays-same (then e one) (then {later = later} f two) =
     λ i. sym (same .0) i ++ rest i
 
 -- what made a move: a whole record came next, or the input ended
-data Made (stage : Stage) (p : Player) (ended : Bool) (next : Next) (text : List ℕ) (q : Player) (rest : List ℕ) : Type 0 where
+pub data Made (stage : Stage) (p : Player) (ended : Bool) (next : Next) (text : List ℕ) (q : Player) (rest : List ℕ) : Type 0 where
   by-record : (bytes : List ℕ) → next ≡ whole bytes rest → ((last : Bool) (later : List ℕ) → moveAt stage p last (whole bytes later) ≡ says text q later)
       → Made stage p ended next text q rest
   by-end : ended ≡ true → q ≡ finished p → rest ≡ [] → Made stage p ended next text q rest
@@ -51,7 +52,7 @@ ended-so : {stage : Stage} {p q : Player} {next : Next} {text said rest : List �
 ended-so e = let same = same-move e in by-end refl (sym (same .1)) (sym (same .2))
 
 -- every move was made by the one or the other
-made : {text rest : List ℕ} {q : Player} (stage : Stage) (p : Player) (ended : Bool) (next : Next) → moveAt stage p ended next ≡ says text q rest → Made stage p ended next text q rest
+pub made : {text rest : List ℕ} {q : Player} (stage : Stage) (p : Player) (ended : Bool) (next : Next) → moveAt stage p ended next ≡ says text q rest → Made stage p ended next text q rest
 made Stage.Script p ended (whole script later) e =
     let same = same-move e in
     by-record script (ap (whole script) (same .2)) (λ last more i. says (same .0 i) (same .1 i) more)
@@ -127,10 +128,10 @@ pub data Run : Player → List ℕ → List (List ℕ) → List ℕ → Type 0 w
   -- a piece is put after what is held
   reads : {p : Player} {held piece said : List ℕ} {pieces : List (List ℕ)} → Run p (held ++ piece) pieces said → Run p held (piece ∷ pieces) said
   -- a turn while more may come
-  turns : {p : Player} {held out after said : List ℕ} {pieces : List (List ℕ)} {r : Turn} → moveRoom ≤ length out → Turned p false held 0 out 0 after r
+  turns : {p : Player} {held out after said : List ℕ} {pieces : List (List ℕ)} {r : Turn} → Turned p false held 0 out 0 after r
       → Run (r .player) (drop (r .taken) held) pieces said → Run p held pieces (take (r .filled) after ++ said)
   -- a turn when no more will come
-  closes : {p : Player} {held out after said : List ℕ} {r : Turn} → moveRoom ≤ length out → Turned p true held 0 out 0 after r
+  closes : {p : Player} {held out after said : List ℕ} {r : Turn} → Turned p true held 0 out 0 after r
       → Run (r .player) (drop (r .taken) held) [] said → Run p held [] (take (r .filled) after ++ said)
   -- all lines are printed
   stops : {p : Player} {held : List ℕ} {pieces : List (List ℕ)} → p .stage ≡ Stage.Over → Run p held pieces []
@@ -160,10 +161,10 @@ pub run-plays : {p : Player} {held said : List ℕ} {pieces : List (List ℕ)} �
 unfolding flatten
 run-plays fit (reads {p = p} {held = held} {piece = piece} {said = said} {pieces = pieces} run) =
     subst (λ (l : List ℕ). Plays p l said) (append-assoc held piece (flatten pieces)) (run-plays fit run)
-run-plays fit (turns {pieces = pieces} enough turn run) =
+run-plays fit (turns {pieces = pieces} turn run) =
     let fits = moves-fit fit (turn .moves) in
     rw (turn-prints turn (omega (arith, fits .0))) (moves-then (flatten pieces) (turn .moves) (run-plays (fits .1) run))
-run-plays fit (closes {held = held} {r = r} enough turn run) =
+run-plays fit (closes {held = held} {r = r} turn run) =
     let fits = moves-fit fit (turn .moves) in
     let later = rw (append-nil (drop (r .taken) held)) at (run-plays (fits .1) run) in
     rw (append-nil held, turn-prints turn (omega (arith, fits .0))) (moves-last (turn .moves) later)
@@ -239,3 +240,9 @@ turn-goes-on {input = input} {r = r} turn room enough =
       | inl less ↦ inl (omega (arith, length-drop (r .taken) input))
       | inr done ↦ inr (turn .done ∙ ap isOver done)
     ]
+
+-- whoever says that all lines are printed is at the last stage
+pub over-stage : (stage : Stage) → isOver stage ≡ true → stage ≡ Stage.Over
+over-stage Stage.Script e = never e
+over-stage Stage.Steps e = never e
+over-stage Stage.Over e = refl

@@ -34,7 +34,8 @@ use Rattle.replaying.specs.Moving.{textKept, textsOf, sizesOf, replyLine
 use Rattle.replaying.specs.Texts.{text-kept}
 use Rattle.replaying.specs.Turning.{awaiting}
 use Rattle.replaying.specs.Fitting.{new-fits}
-use Rattle.replaying.specs.Pieces.{Plays, over, then, plays-same, over-waits, Run, run-plays}
+use Rattle.replaying.specs.Pieces.{Plays, over, then, plays-same, over-waits, Run, reads, run-plays}
+use Rattle.replaying.specs.Ending.{run-ends}
 
 -- entries with the same labels and the same results have the same lines
 rows-same : {one two : ℕ → List ℕ} {first second : ℕ} {these those : ℕ → Outcome} (n : ℕ) → ((k : ℕ) → k < n → one k ≡ two k) → first ≡ second → ((k : ℕ) → these k ≡ those k)
@@ -154,3 +155,11 @@ new-player-replays input few =
 -- what the program prints, in whatever pieces the stream comes, is what document 01 says of the stream
 pub run-replayed : {pieces : List (List ℕ)} {said : List ℕ} → Run newPlayer [] pieces said → length (flatten pieces) < 2 ^ 64 → said ≡ replayed (flatten pieces)
 run-replayed {pieces} run few = plays-same (run-plays new-fits run) (new-player-replays (flatten pieces) few)
+
+-- and every stream has such a run, so that what is said of runs is said of every stream
+pub always-replayed : (input : List ℕ) → length input < 2 ^ 64 → Run newPlayer [] (input ∷ []) (replayed input)
+unfolding flatten
+always-replayed input few =
+    let ended = run-ends newPlayer input in
+    let run : Run newPlayer [] (input ∷ []) (ended .said) = reads {held = []} {piece = input} {pieces = []} (ended .run) in
+    subst (Run newPlayer [] (input ∷ [])) (run-replayed run (rw (append-nil input) few) ∙ ap replayed (append-nil input)) run

@@ -83,7 +83,7 @@ loop-again c =
       input-long = refilled .long ∙ going .input-long;
       out-long = within-out played .1;
       within = omega (arith, refilled .within, going .input-long);
-      running = running-read (refilled .piece) (running-turn (going .running) (omega (arith, going .out-long)) (played .play .ensures)) (refilled .bytes) (refilled .still);
+      running = running-read (refilled .piece) (running-turn (going .running) (played .play .ensures)) (refilled .bytes) (refilled .still);
     }
 
 -- where the program returns because all lines are printed: what was handed to write, this turn's lines with it, is what document 01 says of the bytes that were
@@ -93,7 +93,7 @@ pub all-printed : (c : tie.Then2 Inv-loop μ-loop) → let played = c .before .b
 all-printed c few =
     let played = c .before .before .before .before .before in
     let going = began played .loop .inv in
-    running-last (going .running) (omega (arith, going .out-long)) (played .play .ensures) (c .if2 .taken) few
+    running-last (going .running) (played .play .ensures) (c .if2 .taken) few
 
 -- the program begins with nothing read and nothing printed
 pub begins-empty : (c : tie.After-new-player Inv-loop μ-loop) → (loop-holds c .running .read ≡ []) × (loop-holds c .running .printed ≡ [])
