@@ -8,7 +8,6 @@ use native.Mathlib.Omega.{arith}
 use lib.ListN.{length, getD, take, drop, length-append, length-drop}
 use Rattle.replies.specs.Plain.{never}
 use Rattle.lines.specs.Laying.{Lays, lays-same}
-use Rattle.lines.specs.Laying.{laid, Lays}
 use Rattle.lines.specs.Whole.{laid-whole}
 use Rattle.stream.specs.Records.{Next, end, whole, nextRecord}
 use Rattle.stream.specs.Cutting.{whole-more, rest-shorter, longest, long-begins}
