@@ -1,12 +1,12 @@
 -- Whole bytes as a number: what a window of bytes holds.
 use mathlib.Core.List.{List}
 use mathlib.Core.Path.{_≡_, _∙_, ap}
-use Prim.Native.Nat.{ℕ, suc, _+_, _-_, _*_, _/_, _%_, _^_, _<_, _≤_}
+use Prim.Native.Nat.{ℕ, zero, suc, _+_, _-_, _*_, _/_, _%_, _^_, _<_, _≤_}
 use native.Mathlib.Nat.{mod-eq-of-lt}
 use native.Mathlib.Omega.{arith}
 use lib.ListN.{getD}
 use lib.Pow.{pow-mono}
-use Rattle.bits.specs.Bits.{bitAt, bitsAt}
+use Rattle.bits.specs.Bits.{numberFrom, bitAt, bitsAt}
 use Rattle.bits.specs.Digits.{bit-lt, number-lt, number-split, number-of-bits, number-part}
 
 -- the eight bits of a byte make the byte
@@ -27,23 +27,40 @@ bits-lt s at w = number-lt (bitAt s) at w (bit-lt s)
 pub window-lt : (s : List ℕ) (first i : ℕ) → i ≤ 6 → bitsAt s (8 * first) (8 * i) < 2 ^ 48
 window-lt s first i h = omega (arith, bits-lt s (8 * first) (8 * i), pow-mono {i = 8 * i} {j = 48} (omega arith))
 
+-- some bytes and those after them
+pub window-join : (s : List ℕ) (first i n : ℕ)
+    → bitsAt s (8 * first) (8 * (i + n)) ≡ bitsAt s (8 * first) (8 * i) * 2 ^ (8 * n) + bitsAt s (8 * (first + i)) (8 * n)
+unfolding bitsAt
+window-join s first i n =
+    let wide : 8 * (i + n) ≡ 8 * i + 8 * n = omega arith in
+    let place : 8 * first + 8 * i ≡ 8 * (first + i) = omega arith in
+    rw (wide, number-split (bitAt s) (8 * first) (8 * i) (8 * n), place)
+
 -- one byte more
 pub window-more : (s : List ℕ) (first i : ℕ) → getD s (first + i) 0 < 256
     → bitsAt s (8 * first) (8 * (i + 1)) ≡ bitsAt s (8 * first) (8 * i) * 256 + getD s (first + i) 0
-unfolding bitsAt
 window-more s first i byte =
-    let wide : 8 * (i + 1) ≡ 8 * i + 8 = omega arith in
-    let place : 8 * first + 8 * i ≡ 8 * (first + i) = omega arith in
-    rw (wide, number-split (bitAt s) (8 * first) (8 * i) 8, place) (ap (λ (x : ℕ). bitsAt s (8 * first) (8 * i) * 256 + x) (byte-number s (first + i) byte))
+    window-join s first i 1 ∙ ap (λ (x : ℕ). bitsAt s (8 * first) (8 * i) * 256 + x) (byte-number s (first + i) byte)
 
--- the field of w bits within the bytes that it touches
-pub window-field : (s : List ℕ) (at w : ℕ)
-    → bitsAt s (8 * (at / 8)) (8 * ((at % 8 + w + 7) / 8)) / 2 ^ (8 * ((at % 8 + w + 7) / 8) - at % 8 - w) % 2 ^ w ≡ bitsAt s at w
+-- four bytes
+pub four-bytes : (s : List ℕ) (first : ℕ) → getD s first 0 < 256 → getD s (first + 1) 0 < 256 → getD s (first + 2) 0 < 256 → getD s (first + 3) 0 < 256
+    → getD s first 0 * 16777216 + getD s (first + 1) 0 * 65536 + getD s (first + 2) 0 * 256 + getD s (first + 3) 0 ≡ bitsAt s (8 * first) 32
+four-bytes s first a b c d =
+    omega (arith, byte-number s first a, window-more s first 1 b, window-more s first 2 c, window-more s first 3 d)
+
+-- a field within a window of n bits, t of them after it
+pub window-field : (s : List ℕ) (from n at w t : ℕ) → from ≤ at → at + w + t ≡ from + n → bitsAt s from n / 2 ^ t % 2 ^ w ≡ bitsAt s at w
 unfolding bitsAt
-window-field s at w =
-    let after = 8 * ((at % 8 + w + 7) / 8) - at % 8 - w in
-    let wide : 8 * ((at % 8 + w + 7) / 8) ≡ at % 8 + w + after = omega arith in
-    let place : 8 * (at / 8) + at % 8 ≡ at = omega arith in
-    ap (λ (n : ℕ). bitsAt s (8 * (at / 8)) n / 2 ^ after % 2 ^ w) wide
-    ∙ number-part (bitAt s) (8 * (at / 8)) (at % 8) w after (bit-lt s)
-    ∙ ap (λ (n : ℕ). bitsAt s n w) place
+window-field s from n at w t starts ends =
+    let wide : n ≡ at - from + w + t = omega arith in
+    let place : from + (at - from) ≡ at = omega arith in
+    ap (λ (m : ℕ). bitsAt s from m / 2 ^ t % 2 ^ w) wide
+    ∙ number-part (bitAt s) from (at - from) w t (bit-lt s)
+    ∙ ap (λ (m : ℕ). bitsAt s m w) place
+
+-- the same where n counts as 0: only after a field of no bits are there so many
+pub window-shifted : (s : List ℕ) (from n at w t : ℕ) → from ≤ at → at + w + t ≡ from + n → bitsAt s from n / 2 ^ (t % n) % 2 ^ w ≡ bitsAt s at w
+unfolding bitsAt numberFrom
+window-shifted s from n at zero t starts ends = omega arith
+window-shifted s from n at (suc w) t starts ends =
+    ap (λ (k : ℕ). bitsAt s from n / 2 ^ k % 2 ^ suc w) (mod-eq-of-lt (omega arith)) ∙ window-field s from n at (suc w) t starts ends

@@ -5,12 +5,12 @@ use mathlib.Core.Logic.{_≢_, ⊎-elim}
 use mathlib.Core.Path.{_≡_, refl, sym, ap, _∙_}
 use Prim.Native.Nat.{ℕ, zero, suc, _+_, _-_, _*_, _/_, _%_, _^_, _<_, _≤_}
 use native.Mathlib.Decide.{decLt}
-use native.Mathlib.Nat.{add-assoc, eq-or-lt-of-le}
+use native.Mathlib.Nat.{add-assoc, eq-or-lt-of-le, mod-eq-of-lt}
 use native.Mathlib.Omega.{arith}
 use borrow.Author.Tests.{lt-ltb, le-ltb, le-leb, lt-leb}
 use lib.Dec.{leb}
 use lib.ListN.{length, getD, set, length-set}
-use lib.Pow.{high, low}
+use lib.Pow.{high, low, split}
 use lib.Seq.{getD-set-same, getD-set-other, ext-getD}
 use Rattle.bits.specs.Bits.{numberFrom, bitAt, bitsAt, bytesFrom, wholly, widest}
 use Rattle.bits.specs.Digits.{bit-lt, number-lt, number-same, number-split, number-part, number-of-bits}
@@ -18,14 +18,6 @@ use Rattle.bits.specs.Holding.{Bytes}
 use Rattle.bits.specs.Packing.{length-from, byte-from, byte-again}
 use Rattle.bits.specs.Putall.{put-lt}
 use Rattle.bits.specs.Putting.{bitPut, putAt}
-
--- how many bytes a field touches
-abbrev pub bytesFor : ℕ → ℕ → ℕ
-bytesFor at w = (at % 8 + w + 7) / 8
-
--- how many bits stand after it in the last of them
-abbrev pub spareAfter : ℕ → ℕ → ℕ
-spareAfter at w = 8 * bytesFor at w - at % 8 - w
 
 -- a number with v's low w bits in the place of the w bits before its last t
 unfoldable pub replaced : ℕ → ℕ → ℕ → ℕ → ℕ
@@ -85,6 +77,19 @@ replaced-number s from u w t v =
 
     same-after : numberFrom new (from + (u + w)) t ≡ numberFrom (bitAt s) (from + (u + w)) t
     same-after = number-same new (bitAt s) (from + (u + w)) t (λ i l h. put-after s (from + u) w v i (omega arith))
+
+-- a field of no bits changes none, wherever it stands
+none-replaced : (x t v : ℕ) → replaced x 0 t v ≡ x
+unfolding replaced
+none-replaced x t v =
+    ap (λ (n : ℕ). (x / 2 ^ n * 1 + v % 1) * 2 ^ t + x % 2 ^ t) {x = 0 + t} {y = t} (omega arith)
+    ∙ ap (λ (y : ℕ). y * 2 ^ t + x % 2 ^ t) {x = x / 2 ^ t * 1 + v % 1} {y = x / 2 ^ t} (omega arith)
+    ∙ split x t
+
+-- n bits after the field count as none: only a field of no bits has so many after it
+pub replaced-shifted : (x n w t v : ℕ) → w + t ≤ n → replaced x w (t % n) v ≡ replaced x w t v
+replaced-shifted x n zero t v h = none-replaced x (t % n) v ∙ sym (none-replaced x t v)
+replaced-shifted x n (suc w) t v h = ap (λ (k : ℕ). replaced x (suc w) k v) (mod-eq-of-lt (omega arith))
 
 -- ---- bytes stored
 
@@ -158,18 +163,19 @@ module _ (s : List ℕ) (bytes : Bytes s) (first u count w t v : ℕ) (parts : 8
       ext-getD 0 _ _ (long ∙ sym (length-from (length s) new))
       (λ j h. let k : j < length s = rw long at h in byte-is j k ∙ sym (byte-from (length s) new j k))
 
--- a field that has room is put by its window: taken, the field replaced in it, and stored
-pub window-put : (s : List ℕ) (at w v : ℕ) → Bytes s → w ≤ widest → at + w ≤ 8 * length s → {x y : ℕ} {l : List ℕ}
-    → x ≡ bitsAt s (8 * (at / 8)) (8 * bytesFor at w)
-    → y ≡ replaced x w (spareAfter at w) v
-    → l ≡ stored s (at / 8) (byteOf y (bytesFor at w)) (bytesFor at w)
+-- a field that has room is put by a window that holds it, t bits of it after the field: taken, the field replaced in it, and stored
+pub window-put : (s : List ℕ) (at w v first count t : ℕ) → Bytes s → w ≤ widest → at + w ≤ 8 * length s
+    → 8 * first ≤ at → at + w + t ≡ 8 * first + 8 * count → first + count ≤ length s → {x y : ℕ} {l : List ℕ}
+    → x ≡ bitsAt s (8 * first) (8 * count)
+    → y ≡ replaced x w t v
+    → l ≡ stored s first (byteOf y count) count
     → l ≡ putAt s at w v
 unfolding putAt bitsAt
-window-put s at w v bytes narrow ends taken new put =
+window-put s at w v first count t bytes narrow ends from to inside taken new put =
     put
-    ∙ ap (λ (y : ℕ). stored s (at / 8) (byteOf y (bytesFor at w)) (bytesFor at w)) (new ∙ ap (λ (x : ℕ). replaced x w (spareAfter at w) v) taken)
-    ∙ put-stored s bytes (at / 8) (at % 8) (bytesFor at w) w (spareAfter at w) v (omega arith) (omega arith)
-    ∙ ap (λ (n : ℕ). bytesFrom (length s) (bitPut s n w v)) {x = 8 * (at / 8) + at % 8} {y = at} (omega arith)
+    ∙ ap (λ (y : ℕ). stored s first (byteOf y count) count) (new ∙ ap (λ (x : ℕ). replaced x w t v) taken)
+    ∙ put-stored s bytes first (at - 8 * first) count w t v (omega arith) inside
+    ∙ ap (λ (n : ℕ). bytesFrom (length s) (bitPut s n w v)) {x = 8 * first + (at - 8 * first)} {y = at} (omega arith)
     ∙ rw (le-leb w widest narrow, le-leb (at + w) (8 * length s) ends)
 
 -- one that has none is not put

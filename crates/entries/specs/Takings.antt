@@ -2,7 +2,8 @@
 use mathlib.Core.Bool.{Bool}
 use mathlib.Core.List.{List}
 use mathlib.Core.Path.{_≡_, refl, sym, _∙_, ap}
-use Prim.Native.Nat.{ℕ, _+_, _%_, _<_, _≤_}
+use Prim.Native.Nat.{ℕ, zero, suc, _+_, _*_, _%_, _<_, _≤_}
+use native.Mathlib.Nat.{add-zero}
 use native.Mathlib.Omega.{arith}
 use borrow.Author.Tests.{eq-eqb, ne-eqb, lt-ltb, le-ltb}
 use lib.Dec.{ltb}
@@ -11,7 +12,8 @@ use lib.ListN.{length}
 use Rattle.refusals.specs.declared.Refusal.{Refusal}
 use Rattle.refusals.specs.declared.Answer.{Answer}
 use Rattle.bits.specs.declared.Field.{Field}
-use Rattle.bits.specs.Bits.{fieldAt}
+use Rattle.bits.specs.Bits.{bitsAt, fieldAt}
+use Rattle.bits.specs.Fields.{field-there, there-lt}
 use Rattle.bits.specs.Twos.{signed}
 use Rattle.bits.specs.Reading.{Got, got, refused, onward, judged, stops}
 use Rattle.table.specs.declared.Entry.{Entry}
@@ -32,22 +34,52 @@ gotOf x = judged (x .answer) (x .number) (x .next)
 abbrev pub operandAfter : List ℕ → List Bool → ℕ → ℕ → ℕ → Operand → List ℕ → Taking → Got ℕ
 operandAfter sorts events q v k o s x = onward (gotOf x) (λ n next. operandBy sorts events q v k o s next)
 
-module _ (sorts : List ℕ) (events : List Bool) (q v k : ℕ) (o : Operand) (s : List ℕ) (x : Taking) (w : ℕ) (accepted : x .answer ≡ Answer.Accepted) (wide : w ≡ wideOf o) where
-  -- where there is no operand nothing is read
-  pub none-after : w ≡ 0 → got 0 (x .next) ≡ operandAfter sorts events q v k o s x
-  unfolding operandBy
-  none-after none = rw (accepted, ← wide, eq-eqb w 0 none)
+-- a field of no bits is there, up to the end of the bytes
+no-cut : (s : List ℕ) (at w : ℕ) → w ≡ 0 → at ≤ 8 * length s → fieldAt s at w ≡ Field.Missing → ⊥
+no-cut s at w none room missing =
+    let both : Field.Missing ≡ Field.There (bitsAt s at w) = sym missing ∙ field-there s at w (omega arith) (omega arith) in
+    let z : _≡_ {A = ℕ} 0 1 = cc in
+    absurd (omega arith)
 
-  -- a field that isn't there
-  pub cut-after : (w ≡ 0 → ⊥) → fieldAt s (x .next) w ≡ Field.Missing → refused Refusal.Cut ≡ operandAfter sorts events q v k o s x
-  unfolding operandBy
-  cut-after some missing = rw (accepted, ← wide, ne-eqb w 0 some, missing)
+-- what has no field is accepted
+nothing-judged : (sorts : List ℕ) (events : List Bool) (q v k : ℕ) (o : Operand) (n : ℕ) → 0 ≡ wideOf o
+    → judgedBy sorts events q v k (holding o n) ≡ Answer.Accepted
+unfolding judgedBy
+nothing-judged sorts events q v k Operand.Nothing n none = refl
+nothing-judged sorts events q v k (Operand.Entry s a) n none = absurd (omega arith)
+nothing-judged sorts events q v k (Operand.Imported s i) n none = absurd (omega arith)
+nothing-judged sorts events q v k (Operand.Variable x) n none = absurd (omega arith)
+nothing-judged sorts events q v k (Operand.Constant z) n none = absurd (omega arith)
 
-  -- a field that is there is judged
-  pub there-after : (n : ℕ) {held : Operand} {answer : Answer} → (w ≡ 0 → ⊥) → fieldAt s (x .next) w ≡ Field.There n
-      → held ≡ holding o n → answer ≡ judgedBy sorts events q v k held → judged answer n (x .next + w) ≡ operandAfter sorts events q v k o s x
-  unfolding operandBy
-  there-after n {held} {answer} some there holds judges = rw (accepted, ← wide, ne-eqb w 0 some, there, judges, holds)
+module _ (sorts : List ℕ) (events : List Bool) (q v k : ℕ) (o : Operand) where
+  module _ (s : List ℕ) (at : ℕ) where
+    -- where there is no operand nothing is read
+    none-there : (w : ℕ) → w ≡ wideOf o → w ≡ 0 → got 0 at ≡ operandBy sorts events q v k o s at
+    unfolding operandBy
+    none-there w wide none = rw (← wide, eq-eqb w 0 none)
+
+    -- a field that isn't there
+    pub cut-there : (w : ℕ) → w ≡ wideOf o → (w ≡ 0 → at ≤ 8 * length s) → fieldAt s at w ≡ Field.Missing → refused Refusal.Cut ≡ operandBy sorts events q v k o s at
+    unfolding operandBy
+    cut-there w wide room missing = rw (← wide, ne-eqb w 0 (λ none. no-cut s at w none (room none) missing), missing)
+
+    -- a field that is there is judged
+    pub judged-there : (w : ℕ) → w ≡ wideOf o → (n : ℕ) {held : Operand} {answer : Answer} → fieldAt s at w ≡ Field.There n
+        → held ≡ holding o n → answer ≡ judgedBy sorts events q v k held → judged answer n (at + w) ≡ operandBy sorts events q v k o s at
+    unfolding operandBy
+    judged-there zero wide n {held} {answer} there holds judges =
+        let none : n ≡ 0 = omega (arith, there-lt s at 0 n there) in
+        rw (judges, holds, nothing-judged sorts events q v k o n wide, none, ← wide) (ap (got 0) (add-zero at))
+    judged-there (suc w) wide n {held} {answer} there holds judges = rw (← wide, ne-eqb (suc w) 0 (λ none. omega arith), there, judges, holds)
+
+  module _ (s : List ℕ) (x : Taking) (accepted : x .answer ≡ Answer.Accepted) where
+    -- what follows an accepted taking is the operand at the bit after it
+    pub operand-after : {m : Got ℕ} → m ≡ operandBy sorts events q v k o s (x .next) → m ≡ operandAfter sorts events q v k o s x
+    operand-after {m} next = rw accepted next
+
+    -- and where there is no operand, nothing
+    pub none-after : (w : ℕ) → w ≡ wideOf o → w ≡ 0 → got 0 (x .next) ≡ operandAfter sorts events q v k o s x
+    none-after w wide none = operand-after (none-there s (x .next) w wide none)
 
 -- the entry of a kind, from the numbers of its operands' fields
 abbrev madeBy : ℕ → ℕ → ℕ → ℕ → Entry

@@ -1,5 +1,5 @@
 -- Every number in a row is in range: a constant by 13, a sum by its definition, a time and a value by their step, a variable by what came before.
-use mathlib.Core.Bool.{Bool, true, false, cond, not, _&&_}
+use mathlib.Core.Bool.{true, false, cond, not, _&&_}
 use mathlib.Core.List.{List, [], _∷_, _++_}
 use mathlib.Core.Option.{Option, none, some, Option·getD}
 use mathlib.Core.Path.{_≡_, refl, sym, _∙_, ap}
@@ -7,33 +7,27 @@ use Prim.Native.Nat.{ℕ, zero, suc, _<_, _≤_, _^_}
 use native.Mathlib.Decide.{decLt}
 use native.Mathlib.Omega.{arith}
 use lib.Dec.{eqb}
-use lib.IntN.{ℤ, pos, _+ℤ_, _-ℤ_}
+use lib.IntN.{pos}
 use lib.ListN.{List·getD-eq-default}
 use borrow.Author.Tests.{lt-ltb}
 use Rattle.replies.specs.Plain.{never, both-true}
 use Rattle.values.specs.declared.Number.{Number}
 use Rattle.values.specs.declared.Outcome.{Outcome}
-use Rattle.values.specs.Numbers.{inRange, fitsN, ranged, sumN, differenceN}
+use Rattle.values.specs.Numbers.{fitsN}
 use Rattle.values.specs.Outcomes.{eventIn, numberIn, isDone}
 use Rattle.refusals.specs.declared.Refusal.{Refusal}
-use Rattle.refusals.specs.declared.Answer.{Answer}
-use Rattle.refusals.specs.Numbering.{unless}
-use Rattle.refusals.specs.Accepting.{unless-accepted, accepted-first}
-use Rattle.table.specs.declared.Entry.{Entry}
-use Rattle.table.specs.declared.Entry.the-variants.{ImportedCondition, Defined, Pair, Not, Or, And, Implies, Less, Equal, ImportedEvent, Start, End, Both, Either, When, Constant, Variable, Sum, Difference, Clock, Value, Time, Update, Alarm, Property}
+use Rattle.refusals.specs.Accepting.{unless-accepted}
 use Rattle.table.specs.declared.VariableSlot.{VariableSlot}
 use Rattle.table.specs.declared.Table.{Table}
 use Rattle.table.specs.Limits.{limits}
 use Rattle.table.specs.Kinds.{Change, operandsOf, updateOf}
 use Rattle.table.specs.Tables.{Shaped, entryAt, isEvent, initialOf, zeroConstant, isUndefined, everySlot, unusedSlots}
-use Rattle.table.specs.Faults.{operandFault, operandsFault}
 use Rattle.table.specs.Sound.{Sound}
 use Rattle.sound.specs.Slots.{slot-fails}
 use Rattle.sound.specs.Firsts.{number-said}
-use Rattle.step.specs.Steps.{Step, valueIn}
-use Rattle.meaning.specs.declared.Givens.{Givens}
+use Rattle.step.specs.Steps.{Step}
 use Rattle.meaning.specs.Places.{placesOf}
-use Rattle.meaning.specs.Meaning.{meaning}
+use Rattle.meaning.specs.Ranged.{GivensFit, meaning-fits}
 use Rattle.history.specs.History.{History, Row, Moment, rowAt, latestTime, givenBy, orElse, givenBefore, heldBefore, heldAt, givensAt, judge, rowTo, momentsBy}
 use Rattle.knowing.specs.Fitting.{StepFits, HistoryFits}
 
@@ -50,63 +44,6 @@ pub record MomentFits (m : Moment) : Type 0 where
 abbrev pub MomentsFit : List Moment → Type 0
 MomentsFit [] = Unit {0}
 MomentsFit (m ∷ ms) = MomentFits m × MomentsFit ms
-
--- what an entry looks at, in range
-record GivensFit (g : Givens) : Type 0 where
-  told : fitsN (valueIn (g .told)) ≡ true
-  clock : inRange (g .clock) ≡ true
-  held : fitsN (g .held) ≡ true
-  latest : fitsN (g .latest) ≡ true
-
--- "A sum or difference outside the number range is undefined": what is left is in range
-ranged-fits : (z : ℤ) → fitsN (ranged z) ≡ true
-ranged-fits z = by (inRange z) refl
-  where
-    by : (b : Bool) → inRange z ≡ b → fitsN (cond b (Number.Whole z) Number.Undefined) ≡ true
-    by true e = e
-    by false e = refl
-
--- a sum, whatever is added
-sum-fits : (a b : Number) → fitsN (sumN a b) ≡ true
-sum-fits Number.Undefined b = refl
-sum-fits (Number.Whole a) Number.Undefined = refl
-sum-fits (Number.Whole a) (Number.Whole b) = ranged-fits (a +ℤ b)
-
--- a difference
-difference-fits : (a b : Number) → fitsN (differenceN a b) ≡ true
-difference-fits Number.Undefined b = refl
-difference-fits (Number.Whole a) Number.Undefined = refl
-difference-fits (Number.Whole a) (Number.Whole b) = ranged-fits (a -ℤ b)
-
--- a number that an entry of a sound table gives is in range, where what it looks at is
-meaning-fits : (t : Table) (k : ℕ) (e : Entry) → operandsFault t k (operandsOf e) ≡ Answer.Accepted → (x y : Outcome) (g : Givens) → GivensFit g
-    → fitsN (numberIn (meaning e x y g)) ≡ true
-unfolding operandsOf operandsFault operandFault meaning
-meaning-fits t k (ImportedCondition i) good x y g fits = refl
-meaning-fits t k (Defined a) good x y g fits = refl
-meaning-fits t k (Pair a b) good x y g fits = refl
-meaning-fits t k (Not a) good x y g fits = refl
-meaning-fits t k (Or a b) good x y g fits = refl
-meaning-fits t k (And a b) good x y g fits = refl
-meaning-fits t k (Implies a b) good x y g fits = refl
-meaning-fits t k (Less a b) good x y g fits = refl
-meaning-fits t k (Equal a b) good x y g fits = refl
-meaning-fits t k (ImportedEvent i) good x y g fits = refl
-meaning-fits t k (Start a) good x y g fits = refl
-meaning-fits t k (End a) good x y g fits = refl
-meaning-fits t k (Both a b) good x y g fits = refl
-meaning-fits t k (Either a b) good x y g fits = refl
-meaning-fits t k (When a b) good x y g fits = refl
-meaning-fits t k (Constant z) good x y g fits = unless-accepted (inRange z) Refusal.Range (accepted-first (unless (inRange z) Refusal.Range) Answer.Accepted good)
-meaning-fits t k (Variable v) good x y g fits = fits .held
-meaning-fits t k (Sum a b) good x y g fits = sum-fits (numberIn x) (numberIn y)
-meaning-fits t k (Difference a b) good x y g fits = difference-fits (numberIn x) (numberIn y)
-meaning-fits t k Clock good x y g fits = fits .clock
-meaning-fits t k (Value i) good x y g fits = fits .told
-meaning-fits t k (Time a) good x y g fits = fits .latest
-meaning-fits t k (Update a v b) good x y g fits = refl
-meaning-fits t k (Alarm a) good x y g fits = refl
-meaning-fits t k (Property a) good x y g fits = refl
 
 -- one result more
 row-more : (row : Row) (o : Outcome) → RowFits row → fitsN (numberIn o) ≡ true → RowFits (row ++ (o ∷ []))

@@ -91,7 +91,7 @@ pub entries-earlier : (t : Table) (k : ℕ) (operands : List Operand) → operan
 entries-earlier t k operands good = all-named t k operands good .entries .each
 
 -- a number below the bound, or 0 where there is none, is a slot
-a-slot : (bound slots : ℕ) (numbers : List ℕ) → AllBelow bound numbers → bound ≤ slots → 0 < slots → (i : ℕ) → getD numbers i 0 < slots
+pub a-slot : (bound slots : ℕ) (numbers : List ℕ) → AllBelow bound numbers → bound ≤ slots → 0 < slots → (i : ℕ) → getD numbers i 0 < slots
 a-slot bound slots numbers below fits some i =
     elim (decLt i (length numbers)) [
       | yes there ↦ omega (arith, below .each i there)

@@ -2,3 +2,4 @@
 pub mod Places
 pub mod Inside
 pub mod Meaning
+pub mod Ranged

@@ -78,7 +78,7 @@ fn as_unsound(a: Answer) -> Answer
 }
 
 // "29: monitor or table that the writer would refuse with 4, 7, 8 or 13, or a kept number or time out of range"
-pub(crate) fn unsound(m: Monitor) -> Answer
+pub fn unsound(m: Monitor) -> Answer
     ensures { λ r. ⌜ r ≡ unsound m ⌝ }
 {
     let table = m.table;

@@ -2,8 +2,8 @@
 mod kept;
 mod walk;
 
-use crate::kept::unsound;
 use crate::walk::advance;
+pub use kept::unsound;
 use refusals::Answer;
 use refusals::Refusal;
 use step::Taken;

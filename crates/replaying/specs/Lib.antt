@@ -4,7 +4,9 @@ pub mod Framing
 pub mod Texts
 pub mod Opening
 pub mod Printing
+pub mod Rows
 pub mod Turning
+pub mod Running
 pub mod Fitting
 pub mod Pieces
 pub mod Ending

@@ -2,6 +2,8 @@
 mod framing;
 mod opening;
 mod printing;
+mod rows;
+mod running;
 mod texts;
 mod turning;
 

@@ -18,7 +18,14 @@ ghost use Rattle.stream.specs.Replay.{rowLines, closing};
 ghost use Rattle.replaying.specs.Moving.{textKept, timeOf, replyLines};
 
 // Time, a word, entry number, label.
-fn word_line(out: &mut [u8], at: usize, time: u64, word: &[u8], k: usize, text: &[u8]) -> usize
+pub(crate) fn word_line(
+    out: &mut [u8],
+    at: usize,
+    time: u64,
+    word: &[u8],
+    k: usize,
+    text: &[u8],
+) -> usize
     ensures { λ r. ⌜ Lays (now (out .entry)) at (line (decimal time ∷ now (word .entry) ∷ decimal k ∷ now (text .entry) ∷ [])) (now (out .exit)) r ⌝ }
 {
     let at = lines::put_decimal(out, at, time);
@@ -89,7 +96,7 @@ fn row_lines(
 }
 
 // "A refused step prints `refused` and its number"
-fn refused_line(out: &mut [u8], at: usize, r: Refusal) -> usize
+pub(crate) fn refused_line(out: &mut [u8], at: usize, r: Refusal) -> usize
     ensures { λ r₁. ⌜ Lays (now (out .entry)) at (refusedLine r) (now (out .exit)) r₁ ⌝ }
 {
     let number = refusals::number(r);

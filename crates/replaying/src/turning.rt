@@ -9,6 +9,7 @@ use crate::opening::opened;
 use crate::printing::closing_lines;
 use crate::printing::cut_line;
 use crate::printing::reply_lines;
+use crate::running::run_steps;
 use refusals::Answer;
 use table::Table;
 ghost use mathlib.Core.Path.{_≡_};
@@ -19,7 +20,7 @@ ghost use Rattle.replaying.specs.Moving.{onceMore, acceptedAfter, refuse
 ghost use Rattle.replaying.specs.Turning.{NoWhole, Idle};
 
 // Room enough for what any one move prints.
-const MOVE_ROOM: usize = 8192;
+pub(crate) const MOVE_ROOM: usize = 8192;
 
 // A player before the first byte of a stream.
 pub fn new_player() -> Player
@@ -38,7 +39,7 @@ pub fn new_player() -> Player
 }
 
 // How many steps were accepted after this answer; a number of 64 bits goes no further.
-fn accepted_after(answer: Answer, count: u64) -> u64
+pub(crate) fn accepted_after(answer: Answer, count: u64) -> u64
     ensures { λ r. ⌜ r ≡ acceptedAfter answer count ⌝ }
 {
     match answer {
@@ -48,7 +49,7 @@ fn accepted_after(answer: Answer, count: u64) -> u64
 }
 
 // How many were refused.
-fn refused_after(answer: Answer, count: u64) -> u64
+pub(crate) fn refused_after(answer: Answer, count: u64) -> u64
     ensures { λ r. ⌜ r ≡ refusedAfter answer count ⌝ }
 {
     match answer {
@@ -80,7 +81,14 @@ fn stays(p: Player, over: bool, at: usize, filled: usize) -> Turn
 }
 
 // The last lines, where the input has ended and there is room for them.
-fn close(p: Player, input: &[u8], at: usize, ended: bool, out: &mut [u8], filled: usize) -> Turn
+pub(crate) fn close(
+    p: Player,
+    input: &[u8],
+    at: usize,
+    ended: bool,
+    out: &mut [u8],
+    filled: usize,
+) -> Turn
     requires { ⌜ (at ≤ length (now input)) × (filled ≤ length (now out)) × Idle p (now input) at (length (now out) - filled) ⌝ }
     ensures { λ r. ⌜ Turned p ended (now (input .entry)) at (now (out .entry)) filled (now (out .exit)) r ⌝ }
 {
@@ -94,8 +102,15 @@ fn close(p: Player, input: &[u8], at: usize, ended: bool, out: &mut [u8], filled
     stays(finished(p), true, input.len(), next)
 }
 
-// Records from byte `from` on, as long as a whole one is there and room for its lines.
-fn steps(p: Player, input: &[u8], from: usize, ended: bool, out: &mut [u8], start: usize) -> Turn
+// Records from byte `from` on, as long as a whole one is there and room for its lines, 29 tested at each step.
+fn guarded_steps(
+    p: Player,
+    input: &[u8],
+    from: usize,
+    ended: bool,
+    out: &mut [u8],
+    start: usize,
+) -> Turn
     requires { ⌜ (p .stage ≡ Stage.Steps) × (from ≤ length (now input)) × (start ≤ length (now out)) ⌝ }
     ensures { λ r. ⌜ Turned p ended (now (input .entry)) from (now (out .entry)) start (now (out .exit)) r ⌝ }
 {
@@ -129,6 +144,18 @@ fn steps(p: Player, input: &[u8], from: usize, ended: bool, out: &mut [u8], star
         refused: refused,
     };
     close(player, input, at, ended, out, filled)
+}
+
+// Records from byte `from` on: 29 is tested once, and where it does not stop the monitor, the steps are taken in place.
+fn steps(p: Player, input: &[u8], from: usize, ended: bool, out: &mut [u8], start: usize) -> Turn
+    requires { ⌜ (p .stage ≡ Stage.Steps) × (from ≤ length (now input)) × (start ≤ length (now out)) ⌝ }
+    ensures { λ r. ⌜ Turned p ended (now (input .entry)) from (now (out .entry)) start (now (out .exit)) r ⌝ }
+{
+    let monitor = p.monitor;
+    match monitor::unsound(monitor) {
+        Answer::Accepted => run_steps(p, input, from, ended, out, start),
+        Answer::Refused(_) => guarded_steps(p, input, from, ended, out, start),
+    }
 }
 
 // What follows a script: records, or nothing, where it was refused.

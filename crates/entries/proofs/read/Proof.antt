@@ -1,7 +1,9 @@
 -- `entries::read` meets its contract: the kind's field decides first, then the three operands, as they were carried.
 use mathlib.Core.Path.{sym, _∙_, ap}
+use Prim.Native.Nat.{_+_, _*_, _≤_}
 use native.Mathlib.Omega.{arith}
 use borrow.Author.Needs.{needs}
+use lib.ListN.{length}
 use mir.Syntax.{w64}
 use mir.ValLaws.{toZ-ofZ}
 use Rattle.bits.specs.Fields.{there-ends}
@@ -25,27 +27,31 @@ returns-3 c =
     (sym (c .before .before .before .before .field-at .ensures) ∙ c .before .before .kind .given .1) (omega arith)
 
 -- the kind's field ends within the script's bytes
-add-next : tie.Need-add-t19
-add-next c =
-    let d = c .before .before .before .before in
-    omega (
-      arith,
-      there-ends (d .before .before .before .before .before .before .before .args .s .now) (d .before .before .before .before .before .before .before .args .at) 5 _
-          (sym (d .before .before .field-at .ensures) ∙ d .kind .given .1),
-      d .before .before .before .if1 .left,
-    )
+ends : (d : tie.After-kind) → let a = d .before .before .before .before .before .before .before .args in a .at + 5 ≤ 8 * length (a .s .now)
+ends d =
+    let a = d .before .before .before .before .before .before .before .args in
+    there-ends (a .s .now) (a .at) 5 _ (sym (d .before .before .field-at .ensures) ∙ d .kind .given .1)
+
+add-start : tie.Need-add-start
+add-start c = let d = c .before .before .before .before in omega (arith, ends d, d .before .before .before .if1 .left)
+
+judged-requires : tie.Need-judged-requires
+judged-requires c κs =
+    let d : tie.After-kind = c .before .before .before .before .before in
+    (d .before .before .before .if1 .left, (c .width .ensures, λ none. ends d))
 
 -- all operands are accepted
 returns-4 : tie.Need-returns-4
 returns-4 c =
     let d = c .before .before .before .before .before .before .before in
-    let kinds = d .before .before .before .before .before .before .before in
+    let first = d .before .before in
+    let kinds = first .before .before .before .before .before .before in
     entry-made _ _ _ _ _ _ _
     (kinds .before .before .before .if1 .left) (kinds .kind .given .0 .0) (sym (kinds .before .before .field-at .ensures) ∙ kinds .kind .given .1)
-    (d .before .before .before .before .before .if2 .left)
-    (d .before .before .before .apart-of .result) (d .before .before .before .apart-of .ensures ∙ ap apartOf (d .before .before .before .before .made .ensures))
-    (d .before .before .operand .result) (d .before .operand2 .result) (d .operand3 .result)
-    (d .before .before .operand .ensures) (d .before .operand2 .ensures) (d .operand3 .ensures)
+    (first .before .before .before .before .if2 .left)
+    (first .before .before .apart-of .result) (first .before .before .apart-of .ensures ∙ ap apartOf (first .before .before .before .made .ensures))
+    (first .judged .result) (d .before .operand .result) (d .operand2 .result)
+    (first .judged .ensures) (d .before .operand .ensures) (d .operand2 .ensures)
     (c .before .before .before .before .before .enum-told2 .given .1)
     (toZ-ofZ w64 _ (record { sfits = c .before .signed .ok }) ∙ c .before .signed .ensures)
     (c .made2 .ensures)
@@ -54,13 +60,14 @@ returns-4 c =
 returns-5 : tie.Need-returns-5
 returns-5 c =
     let d = c .before .before .before in
-    let kinds = d .before .before .before .before .before .before .before in
+    let first = d .before .before in
+    let kinds = first .before .before .before .before .before .before in
     entry-refused _ _ _ _ _ _ _
     (kinds .before .before .before .if1 .left) (kinds .kind .given .0 .0) (sym (kinds .before .before .field-at .ensures) ∙ kinds .kind .given .1)
-    (d .before .before .before .before .before .if2 .left)
-    (d .before .before .before .apart-of .result) (d .before .before .before .apart-of .ensures ∙ ap apartOf (d .before .before .before .before .made .ensures))
-    (d .before .before .operand .result) (d .before .operand2 .result) (d .operand3 .result)
-    (d .before .before .operand .ensures) (d .before .operand2 .ensures) (d .operand3 .ensures)
+    (first .before .before .before .before .if2 .left)
+    (first .before .before .apart-of .result) (first .before .before .apart-of .ensures ∙ ap apartOf (first .before .before .before .made .ensures))
+    (first .judged .result) (d .before .operand .result) (d .operand2 .result)
+    (first .judged .ensures) (d .before .operand .ensures) (d .operand2 .ensures)
     _
     (c .before .answer .given .1)
 
@@ -76,8 +83,9 @@ read-spec =
     returns-3
     (λ c κs. search needs)
     (λ c κs. search needs)
-    add-next
+    add-start
     (λ c κs. search needs)
+    judged-requires
     (λ c κs. search needs)
     (λ c κs. search needs)
     (λ c. search needs)

@@ -1,4 +1,4 @@
--- The window has 56 bits at most, so nothing is shifted out.
+-- Nothing is shifted out of the window's 64 bits.
 use borrow.Author.Needs.{needs}
 use native.Mathlib.Omega.{arith}
 use Rattle.bits.proofs.Shifts.{one-positive, front-small, whole-small, whole-replaced}
@@ -9,16 +9,16 @@ rem-with : tie.Need-rem-with
 rem-with c = one-positive (c .args .w) (omega arith)
 
 add-with : tie.Need-add-with
-add-with c = record { fits = front-small (c .args .window) (c .args .w) (c .args .spare) (c .args .v) (c .pre .0) (c .pre .1) }
+add-with c = record { fits = front-small (c .args .window) (c .args .w) (c .args .spare) (c .args .v) (omega arith) (omega arith) (omega arith) (omega arith) }
 
 rem-result : tie.Need-rem-result
 rem-result c = one-positive (c .args .spare) (omega arith)
 
 add-result : tie.Need-add-result
-add-result c = record { fits = whole-small (c .args .window) (c .args .w) (c .args .spare) (c .args .v) (c .pre .0) (c .pre .1) }
+add-result c = record { fits = whole-small (c .args .window) (c .args .w) (c .args .spare) (c .args .v) (omega arith) (omega arith) (omega arith) (omega arith) }
 
 returns : tie.Need-returns
-returns c = whole-replaced (c .args .window) (c .args .w) (c .args .spare) (c .args .v) (c .pre .0) (c .pre .1)
+returns c = whole-replaced (c .args .window) (c .args .w) (c .args .spare) (c .args .v) (omega arith) (omega arith) (omega arith) (omega arith)
 
 pub replace-spec : {M : Type 1} → statement M
 replace-spec =

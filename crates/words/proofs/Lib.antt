@@ -1,0 +1,3 @@
+-- What is proved of the crate's contracts besides that its functions meet them.
+pub mod Shifting
+pub mod Determined
