@@ -12,6 +12,7 @@ use Rattle.bits.specs.Reading.{got, answered}
 use Rattle.bits.specs.Lists.{length-list, getD-list}
 use Rattle.table.specs.declared.Table.{Table}
 use Rattle.table.specs.Limits.{limits}
+use Rattle.table.specs.Sound.{sound-table}
 use Rattle.script.specs.declared.Script.{Script}
 use Rattle.script.specs.Reader.{scriptOf, scriptReply, readScript}
 use Rattle.roundtrip.specs.ReadAgain.{read-shaped, read-sound}
@@ -19,7 +20,7 @@ use Rattle.parts.specs.Shown.{outcomeNumber}
 use Rattle.step.specs.declared.TruthSlot.{TruthSlot}
 use Rattle.step.specs.Steps.{Step}
 use Rattle.history.specs.History.{resultAt}
-use Rattle.history.specs.Offered.{offered, historyOf}
+use Rattle.history.specs.Offered.{offered, grown, historyOf}
 use Rattle.monitor.specs.declared.Monitor.{Monitor}
 use Rattle.monitor.specs.declared.Started.{Started}
 use Rattle.monitor.specs.declared.Stepped.{Stepped}
@@ -27,6 +28,9 @@ use Rattle.monitor.specs.Keeping.{unsound, fresh, startOn}
 use Rattle.monitor.specs.Stepping.{resultIn, stepOf}
 use Rattle.knowing.specs.Recalling.{recallOf}
 use Rattle.knowing.specs.Knowing.{start-recalls}
+use Rattle.knowing.specs.Fitting.{HistoryFits}
+use Rattle.knowing.specs.Arriving.{history-fits}
+use Rattle.knowing.specs.Ranges.{result-fits}
 use Rattle.knowing.specs.Staying.{recall-sound}
 use Rattle.knowing.specs.Answering.{replyFor, reply-answer, reply-monitor, slot-result, step-answers}
 use Rattle.words.specs.Words.{outcomeWord}
@@ -36,6 +40,7 @@ use Rattle.words.specs.Restored.{sound-state}
 use Rattle.inplace.specs.Staying.{Standing, step-stands}
 use Rattle.door.specs.Leaving.{Left, ifSize}
 use Rattle.door.specs.Starting.{startLeft, startDoor, read-starts}
+use Rattle.door.specs.Telling.{resultTold, told-again}
 use Rattle.door.specs.Stepping.{StepLeft, slotCount, resultWords, steppedLeft, stepDoor, StepLeaves, Held, step-of-words}
 
 -- the monitor after byte strings were offered as steps, by value; the strings stand the latest first
@@ -173,3 +178,12 @@ module _ (script : List ℕ) (t : Table) (end : ℕ) (whole : scriptOf script �
         ∙ getD-list slotCount _ k 0 slot
         ∙ ap (λ (x : Stepped). outcomeWord (resultIn (x .results) k)) (run-answers before bytes ∙ ap (replyFor t (historyOf t before)) read)
         ∙ ap outcomeWord (slot-result t (s ∷ historyOf t before) k)
+
+    -- and a caller who reads the word has just that result
+    pub run-told : (before : List (List ℕ)) (bytes : List ℕ) (s : Step) (next : ℕ) → offered t (historyOf t before) bytes ≡ got s next
+        → (k : ℕ) → k < slotCount → resultTold (getD (doorRun script state results (bytes ∷ before) .results) k 0) ≡ resultAt t (s ∷ historyOf t before) k
+    unfolding historyOf
+    run-told before bytes s next read k slot =
+        let fits : HistoryFits (s ∷ historyOf t before) = subst HistoryFits (ap (grown (historyOf t before)) read) (history-fits t (bytes ∷ before)) in
+        let ranged = result-fits t (read-shaped script t end whole) (sound-table t (read-sound script t end whole)) (s ∷ historyOf t before) fits k in
+        ap resultTold (run-results before bytes s next read k slot) ∙ told-again (resultAt t (s ∷ historyOf t before) k) ranged

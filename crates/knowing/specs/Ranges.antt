@@ -28,7 +28,7 @@ use Rattle.sound.specs.Firsts.{number-said}
 use Rattle.step.specs.Steps.{Step}
 use Rattle.meaning.specs.Places.{placesOf}
 use Rattle.meaning.specs.Ranged.{GivensFit, meaning-fits}
-use Rattle.history.specs.History.{History, Row, Moment, rowAt, latestTime, givenBy, orElse, givenBefore, heldBefore, heldAt, givensAt, judge, rowTo, momentsBy}
+use Rattle.history.specs.History.{History, Row, Moment, rowAt, latestTime, givenBy, orElse, givenBefore, heldBefore, heldAt, givensAt, judge, rowTo, momentsBy, resultBy, resultAt}
 use Rattle.knowing.specs.Fitting.{StepFits, HistoryFits}
 
 -- every number in a row is in range
@@ -140,3 +140,9 @@ module _ (t : Table) (shape : Shaped t) (sound : Sound t) where
   moments-fit (s ∷ h) fits =
       let past = moments-fit h (fits .1) in
       (record { step = fits .0; row = row-fits (momentsBy judge t h) past s (fits .0) (t .n) (omega arith) }, past)
+
+  -- so is every result that the logic gives
+  pub result-fits : (h : History) → HistoryFits h → (k : ℕ) → fitsN (numberIn (resultAt t h k)) ≡ true
+  unfolding momentsBy resultBy resultAt
+  result-fits [] fits k = refl
+  result-fits (s ∷ h) fits k = moments-fit (s ∷ h) fits .0 .row k
