@@ -118,7 +118,7 @@ sound-bounded Answer.Accepted m bytes sound good = reply-bounded (takenBy m byte
 sound-bounded (Answer.Refused r) m bytes sound good = not-accepted r good
 
 -- an accepted step has no more entries than there are slots, and a time below 2^47
-pub step-bounded : (m : Monitor) (bytes : List ℕ) → stepOf m bytes .answer ≡ Answer.Accepted → Bounded (stepOf m bytes)
+step-bounded : (m : Monitor) (bytes : List ℕ) → stepOf m bytes .answer ≡ Answer.Accepted → Bounded (stepOf m bytes)
 unfolding stepOf
 step-bounded m bytes good = sound-bounded (unsound m) m bytes refl good
 

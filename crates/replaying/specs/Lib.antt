@@ -6,6 +6,7 @@ pub mod Opening
 pub mod Printing
 pub mod Rows
 pub mod Turning
+pub mod Refusing
 pub mod Running
 pub mod Fitting
 pub mod Pieces

@@ -8,13 +8,15 @@ use crate::opening::finished;
 use crate::opening::opened;
 use crate::printing::closing_lines;
 use crate::printing::cut_line;
-use crate::printing::reply_lines;
+use crate::printing::refused_line;
 use crate::running::run_steps;
 use refusals::Answer;
+use refusals::Refusal;
 use table::Table;
 ghost use mathlib.Core.Path.{_≡_};
 ghost use Prim.Native.Nat.{_-_, _≤_};
 ghost use lib.ListN.{length};
+ghost use Rattle.monitor.specs.Keeping.{unsound};
 ghost use Rattle.stream.specs.Records.{nextRecord};
 ghost use Rattle.replaying.specs.Moving.{onceMore, acceptedAfter, refusedAfter, newPlayer, moveRoom, Turned};
 ghost use Rattle.replaying.specs.Turning.{NoWhole, Idle};
@@ -102,8 +104,8 @@ pub(crate) fn close(
     stays(finished(p), true, input.len(), next)
 }
 
-// Records from byte `from` on, as long as a whole one is there and room for its lines, 29 tested at each step.
-fn guarded_steps(
+// Records from byte `from` on, as long as a whole one is there and room for its line, by a monitor that 29 stops: each is refused.
+fn refused_steps(
     p: Player,
     input: &[u8],
     from: usize,
@@ -111,13 +113,9 @@ fn guarded_steps(
     out: &mut [u8],
     start: usize,
 ) -> Turn
-    requires { ⌜ (p .stage ≡ Stage.Steps) × (from ≤ length (now input)) × (start ≤ length (now out)) ⌝ }
+    requires { ⌜ (p .stage ≡ Stage.Steps) × (unsound (p .monitor) ≡ Answer.Refused Refusal.Unsound) × (from ≤ length (now input)) × (start ≤ length (now out)) ⌝ }
     ensures { λ r. ⌜ Turned p ended (now (input .entry)) from (now (out .entry)) start (now (out .exit)) r ⌝ }
 {
-    let texts = p.texts;
-    let sizes = p.sizes;
-    let mut monitor = p.monitor;
-    let mut accepted = p.accepted;
     let mut refused = p.refused;
     let mut at = from;
     let mut filled = start;
@@ -125,22 +123,19 @@ fn guarded_steps(
         let Record::Whole(size) = record_at(input, at) else {
             break;
         };
-        let first = at + 2;
-        let end = first + size;
-        let s = monitor::step(monitor, &input[first..end]);
-        filled = reply_lines(out, filled, &texts, &sizes, s);
-        let answer = s.answer;
-        accepted = accepted_after(answer, accepted);
-        refused = refused_after(answer, refused);
-        monitor = s.monitor;
-        at = end;
+        filled = refused_line(out, filled, Refusal::Unsound);
+        refused = once_more(refused);
+        at = at + 2 + size;
     }
+    let texts = p.texts;
+    let sizes = p.sizes;
+    let monitor = p.monitor;
     let player = Player {
         stage: Stage::Steps,
         texts: texts,
         sizes: sizes,
         monitor: monitor,
-        accepted: accepted,
+        accepted: p.accepted,
         refused: refused,
     };
     close(player, input, at, ended, out, filled)
@@ -154,7 +149,7 @@ fn steps(p: Player, input: &[u8], from: usize, ended: bool, out: &mut [u8], star
     let monitor = p.monitor;
     match monitor::unsound(monitor) {
         Answer::Accepted => run_steps(p, input, from, ended, out, start),
-        Answer::Refused(_) => guarded_steps(p, input, from, ended, out, start),
+        Answer::Refused(_) => refused_steps(p, input, from, ended, out, start),
     }
 }
 

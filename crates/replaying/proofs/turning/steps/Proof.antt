@@ -1,6 +1,7 @@
 -- `replaying::turning::steps` meets its contract: by whether 29 stops the monitor.
 use mathlib.Core.Path.{sym, _∙_}
 use borrow.Author.Needs.{needs}
+use Rattle.replaying.specs.Refusing.{stopped-by-29}
 use Rattle.replaying.proofs.turning.steps.Statement.{statement}
 use Rattle.replaying.proofs.turning.steps.Tie as tie
 
@@ -12,6 +13,14 @@ run-steps-requires c κs =
     let start = tested .before .before .before .before in
     (start .pre .0, sym (tested .unsound .ensures) ∙ told .enum-told .given .1, start .pre .1, start .pre .2)
 
+-- where it was not, the monitor is stopped by 29
+refused-steps-requires : tie.Need-refused-steps-requires
+refused-steps-requires c κs =
+    let told = c .before in
+    let tested = told .before .before in
+    let start = tested .before .before .before .before in
+    (start .pre .0, stopped-by-29 _ (tested .unsound .ensures) (told .enum-told2 .given .1), start .pre .1, start .pre .2)
+
 pub steps-spec : {M : Type 1} → statement M
 steps-spec =
     tie.close
@@ -20,7 +29,7 @@ steps-spec =
     (λ c. search needs)
     run-steps-requires
     (λ c. search needs)
-    (λ c κs. search needs)
+    refused-steps-requires
     (λ c. search needs)
     (λ c. search needs)
     (λ c. search needs)
