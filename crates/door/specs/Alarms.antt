@@ -8,15 +8,12 @@ use native.Mathlib.Numerals.{add-one}
 use native.Mathlib.Omega.{arith}
 use borrow.Author.Tests.{ne-eqb}
 use lib.Dec.{eqb}
-use lib.IntN.{ℤ}
 use lib.ListN.{length, getD}
 use Rattle.values.specs.declared.Truth.{Truth}
-use Rattle.values.specs.declared.Number.{Number}
 use Rattle.values.specs.declared.Outcome.{Outcome}
 use Rattle.values.specs.Truths.{isFalse}
-use Rattle.values.specs.Numbers.{inRange}
-use Rattle.words.specs.Words.{shifted, undefinedWord, outcomeWord}
-use Rattle.words.specs.Again.{shifted-high}
+use Rattle.words.specs.Words.{outcomeWord}
+use Rattle.words.specs.Results.{of-word, of-whole}
 
 -- the word of an alarm that is raised, or of a property that is violated
 abbrev pub calls : ℕ → Bool
@@ -96,27 +93,8 @@ calling (Outcome.Event b) = false
 calling (Outcome.Numeric x) = false
 calling (Outcome.Done b) = false
 
--- no number's word calls
-number-silent : (z : ℤ) (b : Bool) → inRange z ≡ b → calls (cond b (shifted z) undefinedWord) ≡ false
-number-silent z true fits =
-    ap₂ _||_ (ne-eqb (shifted z) 10 (λ same. omega (arith, shifted-high z fits))) (ne-eqb (shifted z) 12 (λ same. omega (arith, shifted-high z fits)))
-number-silent z false fits = refl
-
 -- the words that call are those of the results that do
 pub calls-word : (o : Outcome) → calls (outcomeWord o) ≡ calling o
-unfolding outcomeWord
-calls-word Outcome.Nothing = refl
-calls-word (Outcome.Condition Truth.Undefined) = refl
-calls-word (Outcome.Condition Truth.False) = refl
-calls-word (Outcome.Condition Truth.True) = refl
-calls-word (Outcome.Event true) = refl
-calls-word (Outcome.Event false) = refl
-calls-word (Outcome.Numeric Number.Undefined) = refl
-calls-word (Outcome.Numeric (Number.Whole z)) = number-silent z (inRange z) refl
-calls-word (Outcome.Done true) = refl
-calls-word (Outcome.Done false) = refl
-calls-word (Outcome.Raised true) = refl
-calls-word (Outcome.Raised false) = refl
-calls-word (Outcome.Property Truth.Undefined) = refl
-calls-word (Outcome.Property Truth.False) = refl
-calls-word (Outcome.Property Truth.True) = refl
+calls-word o =
+    of-word calls calling refl o
+    (λ z is. of-whole (λ w. calls w ≡ false) z refl (λ w high. ap₂ _||_ (ne-eqb w 10 (λ same. omega arith)) (ne-eqb w 12 (λ same. omega arith))))

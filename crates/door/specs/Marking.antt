@@ -2,16 +2,15 @@
 use mathlib.Core.Bool.{Bool, true, false}
 use mathlib.Core.List.{List}
 use mathlib.Core.Path.{_≡_, refl, sym, ap, _∙_, subst}
-use Prim.Native.Nat.{ℕ, zero, suc, _+_, _<_, _≤_}
-use native.Mathlib.Decide.{ℕ-discrete}
+use Prim.Native.Nat.{ℕ, _+_, _<_, _≤_}
 use native.Mathlib.Numerals.{add-one}
 use native.Mathlib.Omega.{arith}
 use mir.Val.{boolByte}
 use lib.ListN.{length, getD, set, length-set}
-use lib.Seq.{getD-set-same, getD-set-other}
 use Rattle.bits.specs.Window.{stored}
 use Rattle.bits.specs.Filled.{list-is}
 use Rattle.reach.specs.declared.Reach.{Reach}
+use Rattle.words.specs.Rows.{Begun, begun-one, begun-part}
 use Rattle.words.specs.Layout.{followed}
 use Rattle.words.specs.Standing.{followed-first, followed-later}
 use Rattle.door.specs.Reaching.{markByte, markCount, markBytes, Slotted}
@@ -48,33 +47,6 @@ pub marking-all : {marks : List Bool} {at : ℕ} {first s : List ℕ} {k : ℕ} 
     → s ≡ stored first at (λ j. markByte (getD marks j false)) (length marks)
 marking-all {marks} {at} {first} {s} {k} so all = so .same ∙ ap (stored first at (λ j. markByte (getD marks j false))) {x = k} {y = length marks} (omega (arith, so .within))
 
--- the first bytes are those of a row
-record Begun (f : ℕ → ℕ) (at : ℕ) (s : List ℕ) : Type 0 where
-  long : length s ≡ markCount
-  same : (j : ℕ) → j < at → getD s j 0 ≡ f j
-
--- one byte more
-begun-one : (f : ℕ → ℕ) (at b : ℕ) (s : List ℕ) → at < markCount → b ≡ f at → Begun f at s → Begun f (suc at) (set s at b)
-begun-one f at b s room byte so =
-    record {
-      long = length-set s at b ∙ so .long;
-      same = λ j h.
-          elim (ℕ-discrete j at) [
-            | yes e ↦ rw e (getD-set-same s at b 0 (omega (arith, so .long)) ∙ byte)
-            | no e ↦ getD-set-other s at j b 0 e ∙ so .same j (omega arith)
-          ];
-    }
-
--- one part more
-begun-part : (f g : ℕ → ℕ) (at n : ℕ) (s : List ℕ) → at + n ≤ markCount → ((j : ℕ) → j < n → g j ≡ f (at + j)) → Begun f at s
-    → Begun f (at + n) (stored s at g n)
-unfolding stored
-begun-part f g at zero s room bytes so = subst (λ (k : ℕ). Begun f k s) {x = at} {y = at + 0} (omega arith) so
-begun-part f g at (suc n) s room bytes so =
-    subst (λ (k : ℕ). Begun f k (set (stored s at g n) (at + n) (g n))) {x = suc (at + n)} {y = at + suc n} (omega arith)
-    (begun-one f (at + n) (g n) (stored s at g n) (omega arith) (bytes n (omega arith))
-    (begun-part f g at n s (omega arith) (λ j h. bytes j (omega arith)) so))
-
 -- the three parts are the marks
 pub marks-put : (found : Reach) (s : List ℕ) {s₁ s₂ : List ℕ} → length s ≡ markCount → Slotted found
     → s₁ ≡ stored s 0 (λ j. markByte (getD (found .entries) j false)) (length (found .entries))
@@ -87,14 +59,14 @@ marks-put found s {s₁} {s₂} long slots first second =
     let clock : ℕ → ℕ = λ j. markByte (found .clock) in
     let rest : ℕ → ℕ = followed 48 named clock in
     let all : ℕ → ℕ = followed 128 entry rest in
-    let none : Begun all 0 s = record { long = long; same = λ j h. absurd (omega arith) } in
-    let entries : Begun all 128 s₁ =
-    subst (Begun all 128) (sym (first ∙ ap (stored s 0 entry) (slots .0)))
-    (begun-part all entry 0 128 s (omega arith) (λ j h. sym (followed-first 128 entry rest j h) ∙ ap all {x = j} {y = 0 + j} (omega arith)) none) in
-    let imports : Begun all 176 s₂ =
-    subst (Begun all 176) (sym (second ∙ ap (stored s₁ 128 named) (slots .1)))
-    (begun-part all named 128 48 s₁ (omega arith) (λ j h. sym (followed-later 128 entry rest j ∙ followed-first 48 named clock j h)) entries) in
-    let whole : Begun all markCount (set s₂ 176 (boolByte (found .clock))) =
-    begun-one all 176 (boolByte (found .clock)) s₂ (omega arith)
+    let none : Begun markCount all 0 s = record { long = long; same = λ j h. absurd (omega arith) } in
+    let entries : Begun markCount all 128 s₁ =
+    subst (Begun markCount all 128) (sym (first ∙ ap (stored s 0 entry) (slots .0)))
+    (begun-part markCount all entry 0 128 s (omega arith) (λ j h. sym (followed-first 128 entry rest j h) ∙ ap all {x = j} {y = 0 + j} (omega arith)) none) in
+    let imports : Begun markCount all 176 s₂ =
+    subst (Begun markCount all 176) (sym (second ∙ ap (stored s₁ 128 named) (slots .1)))
+    (begun-part markCount all named 128 48 s₁ (omega arith) (λ j h. sym (followed-later 128 entry rest j ∙ followed-first 48 named clock j h)) entries) in
+    let whole : Begun markCount all markCount (set s₂ 176 (boolByte (found .clock))) =
+    begun-one markCount all 176 (boolByte (found .clock)) s₂ (omega arith)
     (byte-of-mark (found .clock) ∙ sym (followed-later 128 entry rest 48 ∙ followed-later 48 named clock 0)) imports in
     list-is markCount all 0 _ (whole .long) (whole .same)

@@ -25,10 +25,9 @@ use Rattle.meaning.specs.Meaning.{meaning}
 use Rattle.memory.specs.Memory.{memoryOf, remember}
 use Rattle.memory.specs.Recall.{givensFrom}
 use Rattle.monitor.specs.declared.Monitor.{Monitor}
-use Rattle.monitor.specs.declared.Stepped.{Stepped}
 use Rattle.monitor.specs.Keeping.{cellAt, unsound}
 use Rattle.monitor.specs.Laws.{sound-of}
-use Rattle.monitor.specs.Stepping.{Walk, resultIn, heldAfter, recalled, walked, walkTo, monitorAfter, advanced}
+use Rattle.monitor.specs.Stepping.{resultIn, heldAfter, recalled, walked, walkTo, monitorAfter, advanced}
 
 -- how far the walk has come: the entries before k are taken
 pub record Come (m : Monitor) (s : Taken) (results : List Slot) (held : List VariableSlot) (cells : List ℕ) (k : ℕ) : Type 0 where

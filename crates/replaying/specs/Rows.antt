@@ -1,23 +1,20 @@
 -- The lines of a step by the words of its results, and that they are the lines of its reply.
-use mathlib.Core.Bool.{Bool, true, false, cond}
+use mathlib.Core.Bool.{true, cond}
 use mathlib.Core.List.{List, [], _∷_, _++_}
 use mathlib.Core.Path.{_≡_, refl, sym, _∙_, ap, ap₂, subst}
 use Prim.Native.Nat.{ℕ, zero, suc, _+_, _-_, _<_}
 use native.Mathlib.Omega.{arith}
 use borrow.Author.Tests.{eq-eqb, ne-eqb}
 use lib.Dec.{eqb}
-use lib.IntN.{ℤ}
 use lib.ListN.{getD}
 use Rattle.values.specs.declared.Truth.{Truth}
-use Rattle.values.specs.declared.Number.{Number}
 use Rattle.values.specs.declared.Outcome.{Outcome}
-use Rattle.values.specs.Numbers.{inRange}
 use Rattle.refusals.specs.declared.Refusal.{Refusal}
 use Rattle.refusals.specs.declared.Answer.{Answer}
 use Rattle.monitor.specs.declared.Stepped.{Stepped}
 use Rattle.monitor.specs.Stepping.{resultIn}
-use Rattle.words.specs.Words.{shifted, undefinedWord, outcomeWord}
-use Rattle.words.specs.Again.{shifted-high}
+use Rattle.words.specs.Words.{outcomeWord}
+use Rattle.words.specs.Results.{of-word, of-whole}
 use Rattle.lines.specs.Laying.{Lays, lays-none}
 use Rattle.lines.specs.Text.{alarmWord, decimal, line}
 use Rattle.stream.specs.Lines.{violatedWord, refusedLine, wordFor, wordLine, resultLine}
@@ -33,30 +30,12 @@ abbrev pub answerLines : (ℕ → List ℕ) → Answer → ℕ → (ℕ → Outc
 answerLines label Answer.Accepted time result n = rowLines label time result n
 answerLines label (Answer.Refused r) time result n = refusedLine r
 
--- no number has the word of a result that is printed
-number-silent : (z : ℤ) (b : Bool) → inRange z ≡ b → wordFor (printed (cond b (shifted z) undefinedWord)) ≡ wordFor Outcome.Nothing
-number-silent z true fits =
-    rw (ne-eqb (shifted z) 10 (λ same. omega (arith, shifted-high z fits)), ne-eqb (shifted z) 12 (λ same. omega (arith, shifted-high z fits))) refl
-number-silent z false fits = refl
-
 -- a result and its word have the same line
 printed-word : (o : Outcome) → wordFor (printed (outcomeWord o)) ≡ wordFor o
-unfolding outcomeWord
-printed-word Outcome.Nothing = refl
-printed-word (Outcome.Condition Truth.Undefined) = refl
-printed-word (Outcome.Condition Truth.False) = refl
-printed-word (Outcome.Condition Truth.True) = refl
-printed-word (Outcome.Event true) = refl
-printed-word (Outcome.Event false) = refl
-printed-word (Outcome.Numeric Number.Undefined) = refl
-printed-word (Outcome.Numeric (Number.Whole z)) = number-silent z (inRange z) refl
-printed-word (Outcome.Done true) = refl
-printed-word (Outcome.Done false) = refl
-printed-word (Outcome.Raised true) = refl
-printed-word (Outcome.Raised false) = refl
-printed-word (Outcome.Property Truth.Undefined) = refl
-printed-word (Outcome.Property Truth.False) = refl
-printed-word (Outcome.Property Truth.True) = refl
+printed-word o =
+    of-word (λ w. wordFor (printed w)) wordFor refl o
+    (λ z is. of-whole (λ w. wordFor (printed w) ≡ wordFor Outcome.Nothing) z refl
+    (λ w high. rw (ne-eqb w 10 (λ same. omega arith), ne-eqb w 12 (λ same. omega arith)) refl))
 
 -- and so have the rows
 rows-printed : (label : ℕ → List ℕ) (time : ℕ) (result : ℕ → Outcome) (words : List ℕ) (n : ℕ)

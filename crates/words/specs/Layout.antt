@@ -5,7 +5,6 @@ use mathlib.Core.Path.{_≡_}
 use Prim.Native.Nat.{ℕ, _-_}
 use lib.Dec.{ltb}
 use lib.ListN.{length, getD}
-use Rattle.values.specs.declared.Slot.{Slot}
 use Rattle.bits.specs.Bits.{listTo}
 use Rattle.table.specs.Limits.{limits}
 use Rattle.table.specs.Tables.{Shaped, entryAt, isEvent, initialOf}

@@ -2,14 +2,12 @@
 use mathlib.Core.Bool.{Bool, false, cond}
 use mathlib.Core.List.{List}
 use mathlib.Core.Path.{_≡_, refl, sym, _∙_, ap, subst}
-use Prim.Native.Nat.{ℕ, zero, suc, _+_, _<_, _≤_}
-use native.Mathlib.Decide.{ℕ-discrete}
+use Prim.Native.Nat.{ℕ, _+_, _<_, _≤_}
 use native.Mathlib.Numerals.{add-one}
 use native.Mathlib.Omega.{arith}
 use borrow.Author.Tests.{eq-eqb, ne-eqb}
 use lib.Dec.{eqb}
 use lib.ListN.{length, getD, set, length-set, List·getD-eq-default}
-use lib.Seq.{getD-set-same, getD-set-other}
 use Rattle.values.specs.declared.Truth.{Truth}
 use Rattle.bits.specs.Window.{stored}
 use Rattle.bits.specs.Filled.{list-is}
@@ -19,6 +17,7 @@ use Rattle.table.specs.Tables.{entryAt, numberAt, isEvent, initialOf}
 use Rattle.step.specs.declared.TruthSlot.{TruthSlot}
 use Rattle.step.specs.Taking.{truthAt}
 use Rattle.monitor.specs.declared.Monitor.{Monitor}
+use Rattle.words.specs.Rows.{Begun, begun-part}
 use Rattle.words.specs.Words.{numberWord, truthWord, eventWord, entryWord}
 use Rattle.words.specs.Layout.{Kept, countWord, stateWords, wordAt, stateOf}
 use Rattle.words.specs.Standing.{followed-first, word-entry, word-cell, word-held, word-initial, word-event, word-truth}
@@ -70,33 +69,6 @@ storing-all {at} {size} {f} {first} {s} {k} so h = so .same ∙ ap (stored first
 
 -- ---- the parts, one after another
 
--- the first words are those of a row
-pub record Begun (f : ℕ → ℕ) (at : ℕ) (s : List ℕ) : Type 0 where
-  pub long : length s ≡ stateWords
-  pub same : (j : ℕ) → j < at → getD s j 0 ≡ f j
-
--- one word more
-begun-one : (f : ℕ → ℕ) (at w : ℕ) (s : List ℕ) → at < stateWords → w ≡ f at → Begun f at s → Begun f (suc at) (set s at w)
-begun-one f at w s room word so =
-    record {
-      long = length-set s at w ∙ so .long;
-      same = λ j h.
-          elim (ℕ-discrete j at) [
-            | yes e ↦ rw e (getD-set-same s at w 0 (omega (arith, so .long)) ∙ word)
-            | no e ↦ getD-set-other s at j w 0 e ∙ so .same j (omega arith)
-          ];
-    }
-
--- one part more
-begun-part : (f g : ℕ → ℕ) (at n : ℕ) (s : List ℕ) → at + n ≤ stateWords → ((j : ℕ) → j < n → g j ≡ f (at + j)) → Begun f at s
-    → Begun f (at + n) (stored s at g n)
-unfolding stored
-begun-part f g at zero s room words so = subst (λ (k : ℕ). Begun f k s) {x = at} {y = at + 0} (omega arith) so
-begun-part f g at (suc n) s room words so =
-    subst (λ (k : ℕ). Begun f k (set (stored s at g n) (at + n) (g n))) {x = suc (at + n)} {y = at + suc n} (omega arith)
-    (begun-one f (at + n) (g n) (stored s at g n) (omega arith) (words n (omega arith))
-    (begun-part f g at n s (omega arith) (λ j h. words j (omega arith)) so))
-
 -- the words of the imports that there are none of
 event-unused : (m : Monitor) → Kept m → (j : ℕ) → 48 ≤ j → 0 ≡ eventWord (isEvent (m .table) j)
 unfolding isEvent
@@ -113,9 +85,9 @@ counted m j i e here = sym here ∙ ap (wordAt m) e
 
 -- one part more is put, and it ends where the next one begins
 part-put : (m : Monitor) (g : ℕ → ℕ) (at n next : ℕ) {s l : List ℕ} → at + n ≤ stateWords → at + n ≡ next
-    → ((j : ℕ) → j < n → g j ≡ wordAt m (at + j)) → Begun (wordAt m) at s → l ≡ stored s at g n → Begun (wordAt m) next l
+    → ((j : ℕ) → j < n → g j ≡ wordAt m (at + j)) → Begun stateWords (wordAt m) at s → l ≡ stored s at g n → Begun stateWords (wordAt m) next l
 part-put m g at n next {s} {l} room to words so put =
-    subst (λ (k : ℕ). Begun (wordAt m) k l) to (subst (Begun (wordAt m) (at + n)) (sym put) (begun-part (wordAt m) g at n s room words so))
+    subst (λ (k : ℕ). Begun stateWords (wordAt m) k l) to (subst (Begun stateWords (wordAt m) (at + n)) (sym put) (begun-part stateWords (wordAt m) g at n s room words so))
 
 -- the parts that come first: the counts, the entries, what they remember and what the variables hold
 pub front-put : (m : Monitor) (s : List ℕ) {s₁ s₂ s₃ s₄ : List ℕ} → length s ≡ stateWords
@@ -123,7 +95,7 @@ pub front-put : (m : Monitor) (s : List ℕ) {s₁ s₂ s₃ s₄ : List ℕ} �
     → s₂ ≡ stored s₁ 4 (λ k. entryWord (slotEntry (m .table .entries) k)) 128
     → s₃ ≡ stored s₂ 132 (λ k. getD (m .cells) k 0) 128
     → s₄ ≡ stored s₃ 260 (λ x. numberWord (numberAt (m .held) x)) 32
-    → Begun (wordAt m) 292 s₄
+    → Begun stateWords (wordAt m) 292 s₄
 unfolding wordAt entryAt
 front-put m s long counts entries cells held =
     part-put m _ 260 32 292 (omega arith) (omega arith) (λ j h. counted m (260 + j) _ (omega arith) (word-held m j h))
@@ -138,7 +110,7 @@ front-put m s long counts entries cells held =
     held
 
 -- and those that come last make the words of the monitor: what the variables start with, the imports' sorts and last reported values
-pub back-put : (m : Monitor) → Kept m → {s s₅ s₆ s₇ s₈ s₉ : List ℕ} → Begun (wordAt m) 292 s
+pub back-put : (m : Monitor) → Kept m → {s s₅ s₆ s₇ s₈ s₉ : List ℕ} → Begun stateWords (wordAt m) 292 s
     → s₅ ≡ stored s 292 (λ x. numberWord (numberAt (m .table .variables) x)) 32
     → s₆ ≡ stored s₅ 324 (λ i. eventWord (getD (m .table .events) i false)) 48
     → s₇ ≡ stored s₆ 372 (λ i. 0) 16
@@ -147,7 +119,7 @@ pub back-put : (m : Monitor) → Kept m → {s s₅ s₆ s₇ s₈ s₉ : List �
     → s₉ ≡ stateOf m
 unfolding stateOf initialOf isEvent
 back-put m kept {s₉ = s₉} front initial events unused reported last =
-    let all : Begun (wordAt m) stateWords s₉ =
+    let all : Begun stateWords (wordAt m) stateWords s₉ =
     part-put m _ 436 16 stateWords (omega arith) (omega arith)
     (λ j h. truth-unused m kept (48 + j) (omega arith) ∙ counted m (436 + j) _ (omega arith) (word-truth m (48 + j)))
     (part-put m _ 388 48 436 (omega arith) (omega arith) (λ j h. counted m (388 + j) _ (omega arith) (word-truth m j))

@@ -18,7 +18,8 @@ ghost use Rattle.table.specs.Tables.{numberAt};
 ghost use Rattle.step.specs.Taking.{truthAt};
 ghost use Rattle.words.specs.Words.{numberWord, truthWord, eventWord, entryWord};
 ghost use Rattle.words.specs.Layout.{stateWords, wordAt, stateOf};
-ghost use Rattle.words.specs.Packing.{slotEntry, packed, Begun};
+ghost use Rattle.words.specs.Rows.{Begun};
+ghost use Rattle.words.specs.Packing.{slotEntry, packed};
 
 // How many words a monitor takes.
 pub const WORDS: usize = 452;
@@ -115,7 +116,7 @@ fn put_unused(at: usize, word: u64, state: &mut [u64])
 // The parts that come first: the counts, the entries, what they remember and what the variables hold.
 fn put_front(m: Monitor, state: &mut [u64])
     requires { ⌜ length (now state) ≡ stateWords ⌝ }
-    ensures { λ r. ⌜ Begun (wordAt m) 292 (now (state .exit)) ⌝ }
+    ensures { λ r. ⌜ Begun stateWords (wordAt m) 292 (now (state .exit)) ⌝ }
 {
     let t = m.table;
     let entries = t.entries;
@@ -129,7 +130,7 @@ fn put_front(m: Monitor, state: &mut [u64])
 
 // And those that come last: what the variables start with, the imports' sorts and last reported values.
 fn put_back(m: Monitor, state: &mut [u64])
-    requires { ⌜ Begun (wordAt m) 292 (now state) ⌝ }
+    requires { ⌜ Begun stateWords (wordAt m) 292 (now state) ⌝ }
     ensures { λ r. ⌜ now (state .exit) ≡ stateOf m ⌝ }
 {
     let t = m.table;
