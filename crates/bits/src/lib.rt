@@ -1,4 +1,6 @@
 // Fields of 1 to 48 bits in bytes, taken and put, and whole numbers as 48 bits.
+#![tactic(auto)]
+
 mod putting;
 mod taking;
 mod twos;

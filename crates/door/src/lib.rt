@@ -1,4 +1,6 @@
 // The door for C and Rust: the exported functions of the static library. Every buffer is the caller's, and each has its size.
+#![tactic(auto)]
+
 mod alarms;
 mod labelling;
 mod reaching;

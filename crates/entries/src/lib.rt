@@ -1,4 +1,6 @@
 // One entry of a script read: its kind, then its operands, each judged before the next is taken.
+#![tactic(auto)]
+
 ghost use Rattle.std.specs.Prelude.{◌≡◌, ◌*◌, ◌≤◌, length};
 ghost use Rattle.kinds.specs.Apart.{wide_of};
 ghost use Rattle.entries.specs.Entering.{operand_by, entered};

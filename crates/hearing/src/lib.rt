@@ -1,4 +1,6 @@
 // A step heard into words: what it tells of each import, as words of 64 bits in a buffer that the caller lends.
+#![tactic(auto)]
+
 mod reading;
 mod report;
 

@@ -1,4 +1,6 @@
 // A step taken in place: a monitor as words, in a buffer that the caller lends.
+#![tactic(auto)]
+
 mod taking;
 mod walk;
 

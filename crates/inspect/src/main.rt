@@ -1,4 +1,6 @@
 // Shows, for the script on standard input, what each of its alarms and properties reaches.
+#![tactic(auto)]
+
 ghost use Rattle.std.specs.Prelude.{◌≡◌, length};
 
 // Room for a script, and for one byte more, which shows that the input is too long.

@@ -1,4 +1,6 @@
 // One entry judged at a step, on words alone.
+#![tactic(auto)]
+
 mod conditions;
 mod events;
 mod numbers;

@@ -1,4 +1,6 @@
 // Entries taken apart into a kind and operands, and made from them.
+#![tactic(auto)]
+
 ghost use Rattle.std.specs.Prelude.{◌≡◌};
 ghost use Rattle.kinds.specs.Apart.{apart_of, made_of, sort_of_kind, wide_of, number_of, holding, no_operand, one_operand, two_entries, an_update};
 

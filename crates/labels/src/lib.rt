@@ -1,4 +1,6 @@
 // Labels read one after another, up to the end of the bytes.
+#![tactic(auto)]
+
 mod counting;
 
 ghost use Rattle.std.specs.Prelude.{◌≡◌, ◌*◌};

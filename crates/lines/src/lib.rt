@@ -1,4 +1,6 @@
 // Lines of text laid into a lent destination, as far as there is room.
+#![tactic(auto)]
+
 mod fields;
 mod heading;
 

@@ -1,4 +1,6 @@
 // What each of the twenty-five kinds means at one step: where an entry looks, and what it says.
+#![tactic(auto)]
+
 mod looking;
 mod results;
 

@@ -1,4 +1,6 @@
 // What one entry keeps in its cell from one step to the next, and what it looks at.
+#![tactic(auto)]
+
 mod cells;
 mod recalling;
 mod remembering;

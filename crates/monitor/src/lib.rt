@@ -1,4 +1,6 @@
 // The monitor: one state of fixed size, a start and a step.
+#![tactic(auto)]
+
 mod kept;
 mod walk;
 

@@ -1,4 +1,6 @@
 // Labels shown as parts of the caller's script, with the refusal's number.
+#![tactic(auto)]
+
 ghost use Rattle.std.specs.Prelude.{◌≡◌, ◌+◌};
 ghost use Rattle.script.specs.Reader.{label_of, text_of, block_of};
 ghost use Rattle.reader.specs.Scans.{block_span};

@@ -1,4 +1,6 @@
 // The reach of a rule: which entries and imports it can depend on, and whether on the clock.
+#![tactic(auto)]
+
 use refusals::Answer;
 use table::Table;
 

@@ -1,4 +1,6 @@
 // The reach of an entry, found in a time that grows with the entries and operands of its table.
+#![tactic(auto)]
+
 mod following;
 mod touched;
 mod updates;

@@ -1,4 +1,6 @@
 // Runs the cases of standard input through the reach of an entry, and prints a line for each.
+#![tactic(auto)]
+
 mod editing;
 mod input;
 mod showing;

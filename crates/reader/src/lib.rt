@@ -1,4 +1,6 @@
 // Scripts read: a table, a label or the block of labels, or the first refusal.
+#![tactic(auto)]
+
 mod head;
 mod packed;
 mod rules;

@@ -1,4 +1,6 @@
 // Every refusal of document 01 by name, and its number.
+#![tactic(auto)]
+
 ghost use Rattle.std.specs.Prelude.{◌≡◌};
 ghost use Rattle.refusals.specs.Numbering.{number_of};
 

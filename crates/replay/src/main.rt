@@ -1,4 +1,6 @@
 // Plays a recorded stream, a script and then steps, from standard input or from the file that its argument names.
+#![tactic(auto)]
+
 mod source;
 
 ghost use Rattle.std.specs.Prelude.{◌≡◌, length};

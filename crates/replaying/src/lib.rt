@@ -1,4 +1,6 @@
 // A recorded stream, played piece by piece: the lines of the bytes that are there, and what has to be kept for the next ones.
+#![tactic(auto)]
+
 mod framing;
 mod opening;
 mod printing;

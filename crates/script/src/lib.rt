@@ -1,4 +1,6 @@
 // Scripts in and out: what reading, writing and asking for a label answer.
+#![tactic(auto)]
+
 use refusals::Answer;
 use table::Table;
 

@@ -1,4 +1,6 @@
 // Runs the cases of standard input through the reader, the labels and the writer, and prints a line for each.
+#![tactic(auto)]
+
 mod editing;
 mod input;
 mod reading;

@@ -1,4 +1,6 @@
 // Whether a table is sound: refusals 4, 7, 8 and 13 in the order of the writer's check.
+#![tactic(auto)]
+
 mod judging;
 mod slots;
 

@@ -1,4 +1,6 @@
 // A step read from its bytes. Its meaning, bit by bit, stands in specs/.
+#![tactic(auto)]
+
 mod reading;
 mod report;
 

@@ -1,4 +1,6 @@
 // The table of rules in memory: entries of twenty-five kinds, imports, variables, and their limits.
+#![tactic(auto)]
+
 ghost use Rattle.std.specs.Prelude.{◌≡◌};
 ghost use Rattle.table.specs.Tables.{Shaped, empty_table};
 

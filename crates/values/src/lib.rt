@@ -1,4 +1,6 @@
 // The values of document 01: conditions, numbers and results.
+#![tactic(auto)]
+
 mod numbers;
 mod outcomes;
 mod truths;

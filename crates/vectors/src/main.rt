@@ -1,4 +1,6 @@
 // Runs document 01's operators on every row of their tables and at the ends of the number range, and prints a line for each.
+#![tactic(auto)]
+
 use values::Truth;
 
 mod conditions;

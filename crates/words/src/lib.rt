@@ -1,4 +1,6 @@
 // A monitor as words of 64 bits, in a buffer of fixed size that the caller lends.
+#![tactic(auto)]
+
 mod checking;
 mod encoding;
 mod packing;

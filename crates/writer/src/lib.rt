@@ -1,4 +1,6 @@
 // Scripts written: a table and a block of labels, packed into a destination that is lent.
+#![tactic(auto)]
+
 mod packing;
 mod sizes;
 
