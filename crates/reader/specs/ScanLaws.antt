@@ -142,7 +142,7 @@ module _ (s : List ℕ) (t : Table) (at : ℕ) (room : length s ≤ limits.scrip
       → scan_of s k ≡ whole_scan (shown (ltb k t.n && labelled (entry_at t k)) l.span)
   unfolding label_among
   scan_whole k count wanted l all one read e =
-      let ends = among_read _ _ (labels_to_end count s at) (ap (λ (x : Label). x.answer) (sym read) ∙ e) in
+      let ends = among_read (ltb wanted count) (label_after wanted s at) (labels_to_end count s at) (ap (λ (x : Label). x.answer) (sym read) ∙ e) in
       scan_read k ends.1
       (script_rest ∙ ap (λ (n : ℕ). onward (labels_to_end n s at) (λ c end. got t end)) (sym all) ∙ ap (λ (m : Got ℕ). onward m (λ c end. got t end)) ends.2)
       ∙ ap whole_scan

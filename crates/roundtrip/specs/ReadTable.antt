@@ -1,5 +1,5 @@
 -- The table of a script, read: its fields stand in the bytes, zero bits follow up to a whole byte, and it has no fault.
-use Rattle.std.specs.Prelude.{false, List, ◌≡◌, refl, leb, eqb, get_or, replicate}
+use Rattle.std.specs.Prelude.{false, ◌||◌, List, ◌≡◌, refl, leb, eqb, get_or, replicate}
 use Rattle.std.proofs.Common.{sym, ap, subst, arith, leb-true, eqb-true}
 use Rattle.std.proofs.Math.Path.{subst₃}
 use Prim.Native.Nat.{ℕ, zero, suc, ◌+◌, ◌*◌, ◌/◌}
@@ -17,9 +17,11 @@ use Rattle.table.specs.declared.VariableSlot.{VariableSlot}
 use Rattle.table.specs.Limits.{limits}
 use Rattle.table.specs.Tables.{Shaped, entry_at, is_event, initial_of}
 use Rattle.table.specs.Faults.{table_fault}
-use Rattle.script.specs.Reader.{counted, header, imports, variables, entries, packed_table}
+use Rattle.script.specs.Reader.{counted, with_event, with_variable, starting, header, imports, variables, entries, packed_table}
 use Rattle.script.specs.Writer.{joined, header_parts, table_parts}
+use Rattle.refusals.specs.Numbering.{unless}
 use Rattle.refusals.specs.Accepting.{unless_accepted}
+use Rattle.bits.specs.Reading.{◌>>=◌, field, whatever}
 use Rattle.bits.specs.Giving.{Gives, gives_value, gives_onward, gives_field}
 use Rattle.roundtrip.specs.ReadStanding.{Stands, stands_none, stands_more}
 use Rattle.roundtrip.specs.ReadEntries.{entry_read}
@@ -81,7 +83,7 @@ module _ (c : Table) (within : Within c) (s : List ℕ) where
   unfolding imports
   imports_read zero i t at all h = gives_value (subst (λ (m : ℕ). SoFar c s m 0 0 t at) (omega arith) h)
   imports_read (suc left) i t at all h =
-      gives_field s at 1 _ _ _ (λ bit there good.
+      gives_field s at 1 Refusal.Cut whatever (λ bit. imports left (suc i) (with_event t i (eqb bit 1)) s) (λ bit there good.
       imports_read left (suc i) _ _ (omega arith) (import_step h (omega (arith, within.imports)) there))
 
   -- "For each variable: 1 bit ..., then 48 bits"
@@ -90,9 +92,9 @@ module _ (c : Table) (within : Within c) (s : List ℕ) where
   unfolding variables
   variables_read zero x t at all h = gives_value (subst (λ (m : ℕ). SoFar c s c.q m 0 t at) (omega arith) h)
   variables_read (suc left) x t at all h =
-      gives_field s at 1 _ _ _ (λ bit there good.
-      gives_field s _ 48 _ _ _ (λ v number zero-or-defined.
-      variables_read left (suc x) _ _ (omega arith) (variable_step h (omega (arith, within.variables)) there number (unless_accepted _ _ zero-or-defined))))
+      gives_field s at 1 Refusal.Cut whatever (λ bit. (field Refusal.Cut 48 (λ v. unless (eqb bit 1 || eqb v 0) Refusal.Initial) >>= λ v. variables left (suc x) (with_variable t x (starting bit v))) s) (λ bit there good.
+      gives_field s (at + 1) 48 Refusal.Cut (λ v. unless (eqb bit 1 || eqb v 0) Refusal.Initial) (λ v. variables left (suc x) (with_variable t x (starting bit v)) s) (λ v number zero-or-defined.
+      variables_read left (suc x) _ _ (omega arith) (variable_step h (omega (arith, within.variables)) there number (unless_accepted (eqb bit 1 || eqb v 0) Refusal.Initial zero-or-defined))))
 
   -- "n entries"
   pub entries_read : (left k : ℕ) (t : Table) (at : ℕ) → k + left ≡ c.n → SoFar c s c.q c.v k t at
