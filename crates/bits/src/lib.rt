@@ -12,7 +12,7 @@ pub use taking::{byte_at, field_at};
 pub use twos::{signed, unsigned};
 
 // A field that isn't wholly there is an answer of its own.
-#[derive(Drop)]
+#[derive(Clone, Copy)]
 pub enum Field {
     Missing,
     There(u64),

@@ -12,14 +12,14 @@ use refusals::{Answer, Refusal};
 use table::Entry;
 
 // An entry and the bit after it, or the refusal.
-#[derive(Drop)]
+#[derive(Clone, Copy)]
 pub enum Entered {
     Refused(Refusal),
     Entry(Entry, usize),
 }
 
 // An operand's number and the bit after it, if it is accepted.
-#[derive(Drop)]
+#[derive(Clone, Copy)]
 struct Taking {
     answer: Answer,
     number: u64,

@@ -8,14 +8,14 @@ pub use reading::hear;
 use refusals::{Answer, Refusal};
 
 // A step that was heard: its time, or the refusal.
-#[derive(Drop)]
+#[derive(Clone, Copy)]
 pub struct Heading {
     pub answer: Answer,
     pub time: u64,
 }
 
 // The next report: its import, the word of what it tells of it, and the bit after it; or the refusal.
-#[derive(Drop)]
+#[derive(Clone, Copy)]
 enum Next {
     Refused(Refusal),
     Report(usize, u64, usize),

@@ -15,7 +15,7 @@ use numbers::{difference, sum, time, value};
 use picking::pick;
 
 // What an entry says at a step, and what it remembers for the next, as words.
-#[derive(Drop)]
+#[derive(Clone, Copy)]
 pub struct Judged {
     pub outcome: u64,
     pub cell: u64,

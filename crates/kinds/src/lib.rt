@@ -8,7 +8,7 @@ use bits::{signed, unsigned};
 use table::{Entry, Sort};
 
 // What an operand names: nothing, an earlier entry of a sort, an import of a sort, a variable, or a number itself.
-#[derive(Drop)]
+#[derive(Clone, Copy)]
 pub enum Operand {
     Nothing,
     Entry(Sort, u16),
@@ -18,7 +18,7 @@ pub enum Operand {
 }
 
 // An entry taken apart: the number of its kind, and its operands in order.
-#[derive(Drop)]
+#[derive(Clone, Copy)]
 pub struct Apart {
     pub kind: usize,
     pub first: Operand,

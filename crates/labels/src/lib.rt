@@ -15,7 +15,7 @@ use refusals::{Answer, Refusal};
 use script::{Label, Span};
 
 // One label: where its text stands, or the refusal.
-#[derive(Drop)]
+#[derive(Clone, Copy)]
 enum Found {
     Refused(Refusal),
     At(Span),

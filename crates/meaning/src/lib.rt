@@ -10,7 +10,7 @@ use step::Told;
 use values::{Number, Truth};
 
 // Where an entry looks: its first and second operand entry, its import and its variable; 0 where it has none.
-#[derive(Drop)]
+#[derive(Clone, Copy)]
 pub struct Places {
     pub first: usize,
     pub second: usize,
@@ -19,7 +19,7 @@ pub struct Places {
 }
 
 // What an entry looks at besides the results of its operands: this step, and what has been.
-#[derive(Drop)]
+#[derive(Clone, Copy)]
 pub struct Givens {
     // what this step tells of its import
     pub told: Told,

@@ -10,7 +10,7 @@ pub use recalling::givens;
 pub use remembering::memory_of;
 
 // What an entry has to remember: nothing, that its pair is open, that its condition stood, that it failed, or its event's latest time.
-#[derive(Drop)]
+#[derive(Clone, Copy)]
 pub enum Memory {
     Nothing,
     Open,

@@ -15,7 +15,7 @@ use table::{Entry, Table, VariableSlot};
 use values::{Number, Outcome, Slot, Truth};
 
 // What an entry says at a step, and what it remembers for the next.
-#[derive(Drop)]
+#[derive(Clone, Copy)]
 struct Judged {
     outcome: Outcome,
     cell: u64,

@@ -12,14 +12,14 @@ pub struct Script {
 }
 
 // A part of a script: the byte at which it begins, and how many bytes it has.
-#[derive(Drop)]
+#[derive(Clone, Copy)]
 pub struct Span {
     pub from: usize,
     pub size: usize,
 }
 
 // The label of an entry: where its text stands, or the refusal and an empty part.
-#[derive(Drop)]
+#[derive(Clone, Copy)]
 pub struct Label {
     pub answer: Answer,
     pub span: Span,

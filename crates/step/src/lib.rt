@@ -10,7 +10,7 @@ use table::Table;
 use values::{Number, Truth};
 
 // What a step tells of an import: nothing, a condition's value, or that an event occurs, with its value.
-#[derive(Drop)]
+#[derive(Clone, Copy)]
 pub enum Told {
     Nothing,
     Condition(Truth),
@@ -18,13 +18,13 @@ pub enum Told {
 }
 
 // What a step tells of one import.
-#[derive(Drop)]
+#[derive(Clone, Copy)]
 pub struct ToldSlot {
     pub told: Told,
 }
 
 // The last reported value of one import.
-#[derive(Drop)]
+#[derive(Clone, Copy)]
 pub struct TruthSlot {
     pub truth: Truth,
 }
@@ -39,7 +39,7 @@ pub struct Taken {
 }
 
 // A report that was heard: its import, what it tells of it, and the bit after it; or the refusal.
-#[derive(Drop)]
+#[derive(Clone, Copy)]
 enum Heard {
     Refused(Refusal),
     Report(usize, Told, usize),

@@ -7,7 +7,7 @@ ghost use Rattle.table.specs.Tables.{Shaped, empty_table};
 use values::Number;
 
 // The sort of an entry: condition, event, number, or none.
-#[derive(Drop)]
+#[derive(Clone, Copy)]
 pub enum Sort {
     None,
     Condition,
@@ -16,7 +16,7 @@ pub enum Sort {
 }
 
 // "An entry is one of twenty-five kinds, each with its own operands."
-#[derive(Drop)]
+#[derive(Clone, Copy)]
 pub enum Entry {
     // 0 import, of a condition
     ImportedCondition(u16),
@@ -71,13 +71,13 @@ pub enum Entry {
 }
 
 // One entry slot of a table.
-#[derive(Drop)]
+#[derive(Clone, Copy)]
 pub struct EntrySlot {
     pub entry: Entry,
 }
 
 // One variable slot: the number that it starts with, or holds.
-#[derive(Drop)]
+#[derive(Clone, Copy)]
 pub struct VariableSlot {
     pub number: Number,
 }

@@ -2,7 +2,7 @@
 use crate::{gives, say, say_truth};
 use values::Truth;
 
-#[derive(Drop)]
+#[derive(Clone, Copy)]
 enum Operator {
     Or,
     And,
