@@ -1,0 +1,19 @@
+-- The window, with the field replaced, is stored again.
+use mathlib.Core.Path.{◌∙◌}
+use Prim.Native.Nat.{◌-◌, ◌*◌}
+use native.Mathlib.Omega.{arith}
+use Rattle.bits.specs.Window.{window_put, replaced_shifted}
+use Rattle.bits.proofs.putting.put_wide.Goals as goal
+
+pub returns : goal.returns
+returns c =
+    let b = c in
+    let k = b in
+    let a = k.args in
+    let base = k.base_of-base.result in
+    let after = 64 - (a.at - 8 * base) - a.w in
+    window_put a.s.now a.at a.w a.v base 8 after
+    (λ i h. omega (arith, k.slice_known-1.given i)) (omega arith) (omega arith) (omega arith) (omega arith) (omega arith)
+    b.eight-window.ensures
+    (b.replace.ensures ∙ replaced_shifted b.eight-window.result 64 a.w after a.v (omega arith))
+    c.store.ensures

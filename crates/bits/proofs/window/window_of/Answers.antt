@@ -1,0 +1,37 @@
+use borrow.Author.Rules.{rules}
+use mathlib.Core.Path.{◌≡◌, sym, ◌∙◌, ap}
+use Prim.Native.Nat.{ℕ, ◌≤◌, ◌+◌, ◌-◌, ◌*◌}
+use native.Mathlib.Omega.{arith}
+use Rattle.bits.specs.Bits.{number_from, bits_at}
+use Rattle.bits.specs.Octets.{window_lt, window_more}
+use Rattle.bits.proofs.window.window_of.Reads as reads
+use Rattle.bits.proofs.window.window_of.Lts as lts
+use Rattle.bits.proofs.window.window_of.Goals as goal
+
+-- src/taking.rt:15:5
+pub loop-i-init : goal.loop-i-init
+unfolding bits_at number_from
+loop-i-init c = search rules
+
+-- src/taking.rt:16:18
+pub overflow_mul-number : goal.overflow_mul-number
+overflow_mul-number c = record { fits = omega (arith, window_lt c.args.s.now c.args.first c.loop-i.i (omega arith)) }
+
+-- src/taking.rt:16:18
+pub overflow_add-number-in-loop-i : goal.overflow_add-number-in-loop-i
+overflow_add-number-in-loop-i c = record {
+  fits = omega (
+    arith,
+    window_lt c.args.s.now c.args.first c.loop-i.i (omega arith),
+    c.shared_slice_known-1.given (c.args.first + c.loop-i.i),
+  );
+}
+
+-- src/taking.rt:15:5
+pub loop-i-preserved : goal.loop-i-preserved
+loop-i-preserved c = (
+  omega arith,
+  rw c.loop-i.invariant.1
+      (sym (window_more c.args.s.now c.args.first c.loop-i.i
+      (omega (arith, c.shared_slice_known-1.given (c.args.first + c.loop-i.i))))),
+)

@@ -1,0 +1,27 @@
+-- `step::report::condition` meets its contract, by the field of its 2 bits.
+use borrow.Author.Tests.{lt-ltb, le-ltb}
+use mathlib.Core.Path.{◌≡◌, sym, ◌∙◌}
+use native.Mathlib.Omega.{arith}
+use Rattle.bits.specs.declared.Field.{Field}
+use Rattle.bits.specs.Bits.{field_at}
+use Rattle.step.specs.Reader.{condition_report}
+use Rattle.step.proofs.report.condition.Goals.{In-There}
+use Rattle.step.proofs.report.condition.Goals as goal
+
+-- the field that was taken
+code_is : (k : In-There) → let a = k.args in
+    field_at a.s.now a.at 2 ≡ Field.There k.in-There.code
+code_is k = sym k.field_at.ensures ∙ k.in-There.is
+
+pub returns-in_default : goal.returns-in_default
+unfolding condition_report
+returns-in_default c = rw (sym c.field_at.ensures ∙ c.in_default.is)
+
+pub returns-then-code-ge3 : goal.returns-then-code-ge3
+unfolding condition_report
+returns-then-code-ge3 c = rw (code_is (goal.at.returns-then-code-ge3 c).In-There, le-ltb c.in-There.code 3 (omega arith))
+
+pub returns : goal.returns
+unfolding condition_report
+returns c =
+    rw (code_is (goal.at.returns c).In-There, lt-ltb c.in-There.code 3 (omega arith), c.truth_of.ensures)
