@@ -129,6 +129,7 @@ fn update(a: u16, x: u16, b: u16) -> Apart
 }
 
 // An entry's kind and its operands, in the table's order.
+#[tactic(auto, unfolding(crate::specs::Apart::apart_of, table::specs::Kinds::kind_of, table::specs::Kinds::operands_of))]
 pub fn apart_of(e: Entry) -> Apart
     ensures { result ≡ apart_of e }
 {
@@ -162,6 +163,7 @@ pub fn apart_of(e: Entry) -> Apart
 }
 
 // The entry of a kind, 0 to 24, from the numbers of its operands; from 25 on there is none, and the clock stands in.
+#[tactic(auto, unfolding(crate::specs::Apart::made_of))]
 pub fn made(kind: usize, a: u16, b: u16, c: u16, z: i64) -> Entry
     ensures { result ≡ made_of kind a b c z }
 {
