@@ -16,7 +16,7 @@ use table::{Table, VariableSlot};
 use values::{Outcome, Slot, Truth};
 
 // A kept time is one more than the time, and 0 where there is none.
-#[derive(Drop)]
+#[derive(Clone, Copy)]
 pub struct Monitor {
     pub table: Table,
     // the kept time of the last accepted step
@@ -31,14 +31,14 @@ pub struct Monitor {
 }
 
 // A start: a monitor, or 29 and the monitor of the empty table.
-#[derive(Drop)]
+#[derive(Clone, Copy)]
 pub struct Started {
     pub answer: Answer,
     pub monitor: Monitor,
 }
 
 // A step: the new monitor and its results, or the refusal, the monitor as it came and 128 times "no result".
-#[derive(Drop)]
+#[derive(Clone, Copy)]
 pub struct Stepped {
     pub answer: Answer,
     pub monitor: Monitor,

@@ -5,7 +5,7 @@ use refusals::Answer;
 use table::Table;
 
 // The marks of a reach; a refused reach has none.
-#[derive(Drop)]
+#[derive(Clone, Copy)]
 pub struct Reach {
     pub answer: Answer,
     pub entries: [bool; Table::ENTRIES],

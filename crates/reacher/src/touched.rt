@@ -9,7 +9,7 @@ use kinds::{Operand, apart_of};
 use table::Table;
 
 // The marks of the imports, and whether the clock is reached.
-#[derive(Drop)]
+#[derive(Clone, Copy)]
 pub(crate) struct Touched {
     pub(crate) imports: [bool; Table::IMPORTS],
     pub(crate) clock: bool,

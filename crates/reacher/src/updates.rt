@@ -10,7 +10,7 @@ use table::Table;
 
 // Links to updates: of each variable to its last, and of each update to the one before it of the same variable.
 // A link is one more than an update's entry, and 0 where there is none.
-#[derive(Drop)]
+#[derive(Clone, Copy)]
 pub(crate) struct Updates {
     pub(crate) last: [u16; Table::VARIABLES],
     pub(crate) before: [u16; Table::ENTRIES],

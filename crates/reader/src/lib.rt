@@ -12,7 +12,7 @@ use script::{Label, Span};
 use table::Table;
 
 // How far reading came: the table so far and the bit after it, or the refusal.
-#[derive(Drop)]
+#[derive(Clone, Copy)]
 pub struct Stage {
     pub answer: Answer,
     pub at: usize,
@@ -20,7 +20,7 @@ pub struct Stage {
 }
 
 // A script read in one pass: its table, where its block of labels stands, and the label of one entry.
-#[derive(Drop)]
+#[derive(Clone, Copy)]
 pub struct Scan {
     pub answer: Answer,
     pub table: Table,

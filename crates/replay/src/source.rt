@@ -6,7 +6,7 @@ ghost use Rattle.replay.specs.Refilling.{Refilled};
 use libc::STDIN_FILENO;
 
 // The input after a read: how many bytes it holds, whether it has ended, and whether the read failed.
-#[derive(Drop)]
+#[derive(Clone, Copy)]
 pub(crate) struct Held {
     pub(crate) have: usize,
     pub(crate) ended: bool,

@@ -3,7 +3,7 @@ ghost use Rattle.std.specs.Prelude.{◌≤◌, length};
 ghost use Rattle.replaying.specs.Framing.{Framed};
 
 // What stands at a place: the end of the input, a record or length that stops inside, or a whole record of so many bytes.
-#[derive(Drop)]
+#[derive(Clone, Copy)]
 pub(crate) enum Record {
     End,
     Stops,

@@ -14,7 +14,7 @@ use table::Table;
 pub use turning::{new_player, play};
 
 // How far a stream has come: its script is awaited, steps are awaited, or all its lines are printed.
-#[derive(Drop)]
+#[derive(Clone, Copy)]
 pub enum Stage {
     Script,
     Steps,
@@ -22,7 +22,7 @@ pub enum Stage {
 }
 
 // What is kept of a stream between two pieces of it.
-#[derive(Drop)]
+#[derive(Clone, Copy)]
 pub struct Player {
     pub stage: Stage,
     // the text of each label, 32 bytes for each entry
@@ -35,7 +35,7 @@ pub struct Player {
 }
 
 // A piece that was played: the player for the next one, how many bytes of the input were taken and how many of the output filled.
-#[derive(Drop)]
+#[derive(Clone, Copy)]
 pub struct Turn {
     pub player: Player,
     pub over: bool,

@@ -10,7 +10,7 @@ use refusals::Answer;
 use table::Table;
 
 // A player after a script, and how many bytes of the output are filled.
-#[derive(Drop)]
+#[derive(Clone, Copy)]
 pub(crate) struct Opening {
     pub(crate) player: Player,
     pub(crate) filled: usize,

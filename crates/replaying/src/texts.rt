@@ -7,7 +7,7 @@ ghost use Rattle.replaying.specs.Texts.{TextsTo};
 use table::Table;
 
 // The text of each label, 32 bytes for each entry, and how many of these bytes it has.
-#[derive(Drop)]
+#[derive(Clone, Copy)]
 pub(crate) struct Texts {
     pub(crate) texts: [u8; 4096],
     pub(crate) sizes: [u8; Table::ENTRIES],

@@ -5,7 +5,7 @@ use refusals::Answer;
 use table::Table;
 
 // A script that was read: its table, or the refusal and the empty table.
-#[derive(Drop)]
+#[derive(Clone, Copy)]
 pub struct Script {
     pub answer: Answer,
     pub table: Table,
@@ -26,7 +26,7 @@ pub struct Label {
 }
 
 // A script that was written: how many bytes it has, or the refusal and 0.
-#[derive(Drop)]
+#[derive(Clone, Copy)]
 pub struct Written {
     pub answer: Answer,
     pub size: usize,

@@ -30,7 +30,7 @@ pub struct TruthSlot {
 }
 
 // A step that was read: its time, what it tells of each import, and the last reported values after it; or the refusal.
-#[derive(Drop)]
+#[derive(Clone, Copy)]
 pub struct Taken {
     pub answer: Answer,
     pub time: u64,

@@ -83,7 +83,7 @@ pub struct VariableSlot {
 }
 
 // A script's rules: n entries, q imports (true: an event) and v variables, each in the first of its slots.
-#[derive(Drop)]
+#[derive(Clone, Copy)]
 pub struct Table {
     pub n: usize,
     pub q: usize,
