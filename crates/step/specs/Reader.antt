@@ -8,7 +8,7 @@ use Rattle.refusals.specs.Numbering.{unless, and_then}
 use Rattle.bits.specs.declared.Field.{Field}
 use Rattle.bits.specs.Bits.{field_at}
 use Rattle.bits.specs.Twos.{signed}
-use Rattle.bits.specs.Reading.{refused, judged, Reading, give, ◌>>=◌, field, whatever, padding, ended, stops}
+use Rattle.bits.specs.Reading.{refused, Reading, give, ◌>>=◌, field, whatever, padding, ended, stops}
 use Rattle.table.specs.declared.Table.{Table}
 use Rattle.table.specs.Tables.{is_event}
 use Rattle.step.specs.declared.Told.{Told}
