@@ -1,0 +1,11 @@
+-- By the slots: 128 of them hold all the labels.
+use mathlib.Core.Path.{◌∙◌}
+use native.Mathlib.Omega.{arith}
+use Rattle.labels.specs.Counting.{labels_all}
+use Rattle.labels.proofs.counting.before.Goals as goal
+
+pub returns-else-k-lt128 : goal.returns-else-k-lt128
+returns-else-k-lt128 c =
+    let shape = c.shaped.ensures in
+    let a = c.args in
+    c.counted-else-k-lt128.ensures ∙ labels_all a.t 128 a.k (omega (arith, shape.entries)) (omega arith)
