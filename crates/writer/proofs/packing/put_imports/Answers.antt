@@ -1,0 +1,33 @@
+-- `writer::packing::put_imports` meets its contract. The loop's invariant: the bits of the imports passed are put; the measure is how many are left.
+use mathlib.Core.Bool.{Bool, true, false, cond}
+use mathlib.Core.Path.{◌≡◌, refl}
+use Prim.Native.Nat.{◌≤◌, ◌-◌}
+use native.Mathlib.Omega.{arith}
+use mir.Val.{bool_byte}
+use Rattle.table.specs.Tables.{is_event}
+use Rattle.script.specs.Writer.{import_parts}
+use Rattle.writer.specs.Parts.{imports_parts}
+use Rattle.writer.specs.Puts.{Puts, puts_start, puts_joined, puts_length}
+use Rattle.writer.specs.Widths.{imports_width}
+use Rattle.writer.proofs.packing.put_imports.Goals as goal
+
+-- a sort as a bit
+bit-of : (event : Bool) → bool_byte event ≡ cond event 1 0
+bit-of true = refl
+bit-of false = refl
+
+pub loop-i-init : goal.loop-i-init
+loop-i-init c = let t = c.args.t in (omega arith, puts_start (import_parts t))
+
+pub put_field-at-requires : goal.put_field-at-requires
+put_field-at-requires c =
+    let loop = c.loop-i in
+    omega (arith, loop.invariant.1.ends, imports_width c.args.t loop.i)
+
+pub loop-i-preserved : goal.loop-i-preserved
+unfolding import_parts is_event
+loop-i-preserved c =
+    let t = c.args.t in
+    let loop = c.loop-i in
+    let put = c.put_field-at.ensures in
+    (omega arith, puts_joined loop.i (import_parts t) loop.invariant.1 (rw (← bit-of (is_event t loop.i)) put))

@@ -1,0 +1,22 @@
+-- `writer::packing::put_variables` meets its contract. The loop's invariant: the numbers passed are put; the measure is how many are left.
+use mathlib.Core.Path.{◌≡◌}
+use Prim.Native.Nat.{◌≤◌, ◌-◌}
+use native.Mathlib.Omega.{arith}
+use Rattle.table.specs.Tables.{initial_of}
+use Rattle.script.specs.Writer.{number_parts}
+use Rattle.writer.specs.Parts.{variables_parts}
+use Rattle.writer.specs.Puts.{Puts, puts_start, puts_joined, puts_length}
+use Rattle.writer.specs.Widths.{variables_width}
+use Rattle.writer.proofs.packing.put_variables.Goals as goal
+
+pub loop-x-init : goal.loop-x-init
+loop-x-init c = let t = c.args.t in (omega arith, puts_start (λ x. number_parts (initial_of t x)))
+
+pub put_number-at-requires : goal.put_number-at-requires
+put_number-at-requires c =
+    let loop = c.loop-x in
+    omega (arith, loop.invariant.1.ends, variables_width c.args.t loop.x)
+
+pub loop-x-preserved : goal.loop-x-preserved
+unfolding initial_of
+loop-x-preserved c = (omega arith, search puts_joined)
