@@ -53,6 +53,7 @@ fn when(event: bool, condition: Truth) -> bool
 }
 
 // The result of an entry, from the results x and y at its first and second operand entry and what else is given.
+#[tactic(auto, unfolding(crate::specs::Meaning::meaning))]
 pub fn result(e: Entry, x: Outcome, y: Outcome, g: Givens) -> Outcome
     ensures { result ≡ meaning e x y g }
 {

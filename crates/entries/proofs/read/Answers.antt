@@ -50,7 +50,7 @@ returns-in-Accepted c =
     first.judged-a.result d.operand-b.result d.operand-c.result
     first.judged-a.ensures d.operand-b.ensures d.operand-c.ensures
     c.in-Accepted.is
-    (to_z-of_z w64 _ (record { sfits = c.signed.type-inv }) ∙ c.signed.ensures)
+    (to_z-of_z w64 _ (record { sfits = c.signed.type_inv }) ∙ c.signed.ensures)
     c.made-in-Accepted.ensures
 
 -- one is refused
