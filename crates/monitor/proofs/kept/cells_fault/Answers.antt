@@ -1,0 +1,32 @@
+-- `monitor::kept::cells_fault` meets its contract. The loop's invariant: no cell passed has a fault.
+use borrow.Author.Rules.{rules}
+use lib.ListN.{get_or}
+use native.Mathlib.Omega.{arith}
+use mathlib.Core.List.{List}
+use mathlib.Core.Path.{◌≡◌, refl, sym}
+use Prim.Native.Nat.{ℕ, ◌≤◌, ◌-◌}
+use Rattle.refusals.specs.declared.Refusal.{Refusal}
+use Rattle.refusals.specs.declared.Answer.{Answer}
+use Rattle.refusals.specs.Numbering.{unless, first_fault}
+use Rattle.memory.specs.Recall.{kept_fits}
+use Rattle.sound.specs.Firsts.{fault_none, faults_none, fault_found}
+use Rattle.monitor.specs.Unsound.{passes, fails}
+use Rattle.monitor.proofs.kept.cells_fault.Invariants.{faultAt}
+use Rattle.monitor.proofs.kept.cells_fault.Goals as goal
+
+pub loop-k-init : goal.loop-k-init
+unfolding first_fault
+loop-k-init c = search rules
+
+pub returns-then-not-kept_fits : goal.returns-then-not-kept_fits
+returns-then-not-kept_fits c =
+    sym
+    (fault_found (faultAt c.args.cells) 128 c.loop-k.k _ (omega arith)
+    c.loop-k.invariant.1 (fails Refusal.Unsound c.kept_fits.ensures refl c.if-not-kept_fits.true))
+
+pub loop-k-preserved : goal.loop-k-preserved
+loop-k-preserved c = (
+  omega arith,
+  fault_none (faultAt c.args.cells) c.loop-k.k
+      c.loop-k.invariant.1 (passes Refusal.Unsound c.kept_fits.ensures refl c.if-not-kept_fits.false),
+)

@@ -1,0 +1,23 @@
+-- `monitor::kept::held_fault` meets its contract. The loop's invariant: no number passed has a fault.
+use native.Mathlib.Omega.{arith}
+use mathlib.Core.List.{List}
+use mathlib.Core.Path.{◌≡◌, sym}
+use Prim.Native.Nat.{ℕ, ◌≤◌, ◌-◌}
+use Rattle.refusals.specs.declared.Refusal.{Refusal}
+use Rattle.refusals.specs.declared.Answer.{Answer}
+use Rattle.refusals.specs.Numbering.{first_fault}
+use Rattle.table.specs.declared.VariableSlot.{VariableSlot}
+use Rattle.table.specs.Tables.{number_at}
+use Rattle.table.specs.Faults.{number_fault}
+use Rattle.sound.specs.Firsts.{fault_none, faults_none, fault_found, number_said_lem}
+use Rattle.monitor.specs.Unsound.{passes, fails}
+use Rattle.monitor.proofs.kept.held_fault.Given as goal
+
+abbrev pub faultAt : List VariableSlot → ℕ → Answer
+faultAt held x = number_fault (number_at held x)
+
+abbrev pub invariant-loop-x : goal.invariant-loop-x
+invariant-loop-x l = (l.x ≤ 32) × (first_fault l.x (faultAt l.held) ≡ Answer.Accepted)
+
+abbrev pub decreases-loop-x : goal.decreases-loop-x
+decreases-loop-x l = 32 - l.x
