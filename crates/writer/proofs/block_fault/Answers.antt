@@ -8,9 +8,9 @@ use Rattle.writer.proofs.block_fault.Goals as goal
 
 pub returns : goal.returns
 returns c =
-    let start = c in
-    let count = c2.result in
-    let all = c2.ensures in
+    let a = c.args in
+    let count = c.before-count.result in
+    let all = c.before-count.ensures in
     ap (λ (l : Label). l.answer) c.read-label.ensures
-    ∙ ap (λ (n : ℕ). (label_among n count start.args.block.now 0).answer) all
-    ∙ block_answer start.args.t start.args.block.now count
+    ∙ ap (λ (n : ℕ). (label_among n count a.block.now 0).answer) all
+    ∙ block_answer a.t a.block.now count

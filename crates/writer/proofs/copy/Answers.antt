@@ -1,11 +1,11 @@
 -- `writer::copy` meets its contract. The loop's invariant: i bytes are copied; the measure is how many are left.
 use mathlib.Core.List.{List}
-use mathlib.Core.Path.{◌≡◌, sym, ◌∙◌, ap}
-use Prim.Native.Nat.{ℕ, ◌+◌, ◌≤◌, ◌-◌}
+use mathlib.Core.Path.{sym, ◌∙◌, ap}
+use Prim.Native.Nat.{ℕ, ◌+◌}
 use native.Mathlib.Numerals.{add-one}
 use native.Mathlib.Omega.{arith}
-use lib.ListN.{length, get_or, set}
-use lib.Seq.{paste, paste-zero, paste-suc, length-paste}
+use lib.ListN.{get_or, set}
+use lib.Seq.{paste, paste-suc}
 use Rattle.writer.proofs.copy.Goals as goal
 
 pub loop-i-preserved : goal.loop-i-preserved

@@ -1,11 +1,8 @@
 -- `writer::copy` meets its contract. The loop's invariant: i bytes are copied; the measure is how many are left.
-use mathlib.Core.List.{List}
-use mathlib.Core.Path.{◌≡◌, sym, ◌∙◌, ap}
-use Prim.Native.Nat.{ℕ, ◌+◌, ◌≤◌, ◌-◌}
-use native.Mathlib.Numerals.{add-one}
-use native.Mathlib.Omega.{arith}
-use lib.ListN.{length, get_or, set}
-use lib.Seq.{paste, paste-zero, paste-suc, length-paste}
+use mathlib.Core.Path.{◌≡◌}
+use Prim.Native.Nat.{◌≤◌, ◌-◌}
+use lib.ListN.{length}
+use lib.Seq.{paste}
 use Rattle.writer.proofs.copy.Given as goal
 
 abbrev pub invariant-loop-i : goal.invariant-loop-i

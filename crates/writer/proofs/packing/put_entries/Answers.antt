@@ -1,11 +1,8 @@
 -- `writer::packing::put_entries` meets its contract. The loop's invariant: the entries passed are put; the measure is how many are left.
-use mathlib.Core.Path.{◌≡◌}
-use Prim.Native.Nat.{◌≤◌, ◌-◌}
 use native.Mathlib.Omega.{arith}
 use Rattle.table.specs.Tables.{entry_at}
 use Rattle.script.specs.Writer.{entry_parts}
-use Rattle.writer.specs.Parts.{entries_parts}
-use Rattle.writer.specs.Puts.{Puts, puts_start, puts_joined, puts_length}
+use Rattle.writer.specs.Puts.{puts_start, puts_joined}
 use Rattle.writer.specs.Widths.{entries_wide}
 use Rattle.writer.proofs.packing.put_entries.Goals as goal
 

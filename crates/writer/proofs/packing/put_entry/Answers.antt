@@ -15,5 +15,4 @@ put_operand-requires c = omega (arith, field_ends c.put_field-one.ensures)
 
 pub returns : goal.returns
 returns c =
-    let called = c in
-    rw (entry_parts_lem called.args.e, ← called.apart_of-apart.ensures) (search (puts_next, puts_more))
+    rw (entry_parts_lem c.args.e, ← c.apart_of-apart.ensures) (search (puts_next, puts_more))

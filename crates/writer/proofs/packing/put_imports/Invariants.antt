@@ -1,14 +1,7 @@
 -- `writer::packing::put_imports` meets its contract. The loop's invariant: the bits of the imports passed are put; the measure is how many are left.
-use mathlib.Core.Bool.{Bool, true, false, cond}
-use mathlib.Core.Path.{◌≡◌, refl}
 use Prim.Native.Nat.{◌≤◌, ◌-◌}
-use native.Mathlib.Omega.{arith}
-use mir.Val.{bool_byte}
-use Rattle.table.specs.Tables.{is_event}
-use Rattle.script.specs.Writer.{import_parts}
 use Rattle.writer.specs.Parts.{imports_parts}
-use Rattle.writer.specs.Puts.{Puts, puts_start, puts_joined, puts_length}
-use Rattle.writer.specs.Widths.{imports_width}
+use Rattle.writer.specs.Puts.{Puts}
 use Rattle.writer.proofs.packing.put_imports.Given as goal
 
 abbrev pub invariant-loop-i : goal.invariant-loop-i

@@ -1,6 +1,7 @@
 -- `writer::packing::put_number` meets its contract: two fields in either case.
 use mathlib.Core.Path.{ap, ◌∙◌}
 use native.Mathlib.Omega.{arith}
+use borrow.Author.Rules.{rules}
 use mir.Syntax.{w64}
 use mir.ValLaws.{to_z-of_z}
 use Rattle.bits.specs.Twos.{unsigned}
@@ -18,8 +19,6 @@ returns-in-Undefined c = rw c.in-Undefined.is (search puts_next)
 
 pub returns-in-Whole : goal.returns-in-Whole
 returns-in-Whole c =
-    let arm = c in
-    let whole = to_z-of_z w64 arm.in-Whole.z (record { sfits = arm.known_told-1.given.0.1 }) in
+    let whole = to_z-of_z w64 c.in-Whole.z (search rules) in
     let number = c.unsigned.ensures ∙ ap unsigned whole in
-    let first = c.put_field-next-in-Whole.ensures in
-    rw (arm.in-Whole.is, ← number) (puts_next first c.put_field-in-Whole.ensures)
+    rw (c.in-Whole.is, ← number) (puts_next c.put_field-next-in-Whole.ensures c.put_field-in-Whole.ensures)

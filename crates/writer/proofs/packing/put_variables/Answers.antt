@@ -1,11 +1,8 @@
 -- `writer::packing::put_variables` meets its contract. The loop's invariant: the numbers passed are put; the measure is how many are left.
-use mathlib.Core.Path.{◌≡◌}
-use Prim.Native.Nat.{◌≤◌, ◌-◌}
 use native.Mathlib.Omega.{arith}
 use Rattle.table.specs.Tables.{initial_of}
 use Rattle.script.specs.Writer.{number_parts}
-use Rattle.writer.specs.Parts.{variables_parts}
-use Rattle.writer.specs.Puts.{Puts, puts_start, puts_joined, puts_length}
+use Rattle.writer.specs.Puts.{puts_start, puts_joined}
 use Rattle.writer.specs.Widths.{variables_width}
 use Rattle.writer.proofs.packing.put_variables.Goals as goal
 

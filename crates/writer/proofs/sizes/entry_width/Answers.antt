@@ -4,7 +4,7 @@ use Prim.Native.Nat.{◌+◌}
 use native.Mathlib.Omega.{arith}
 use Rattle.kinds.specs.Apart.{wide_of}
 use Rattle.kinds.specs.declared.Apart.{Apart}
-use Rattle.writer.specs.Widths.{operand_wide, entry_width}
+use Rattle.writer.specs.Widths.{entry_width}
 use Rattle.writer.proofs.sizes.entry_width.Goals as goal
 
 pub returns : goal.returns

@@ -1,12 +1,8 @@
 -- `writer::sizes::packed_size` meets its contract. The loop's invariant: the width of all that comes before entry k; the measure is how many are left.
-use mathlib.Core.Path.{◌≡◌, sym, ◌∙◌, ap}
-use Prim.Native.Nat.{ℕ, ◌+◌, ◌*◌, ◌-◌, ◌≤◌, ◌/◌}
-use native.Mathlib.Omega.{arith}
+use mathlib.Core.Path.{◌≡◌}
+use Prim.Native.Nat.{◌+◌, ◌*◌, ◌-◌, ◌≤◌}
 use Rattle.bits.specs.Holding.{width_of_all}
-use Rattle.table.specs.Tables.{entry_at}
-use Rattle.script.specs.Writer.{joined}
 use Rattle.writer.specs.Parts.{entries_parts}
-use Rattle.writer.specs.Widths.{entry_wide, entries_wide, entries_more, table_width}
 use Rattle.writer.proofs.sizes.packed_size.Given as goal
 
 abbrev pub invariant-loop-k : goal.invariant-loop-k
