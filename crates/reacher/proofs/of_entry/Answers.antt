@@ -3,6 +3,9 @@ use borrow.Author.Rules.{rules}
 use Rattle.reacher.specs.Replying.{found_sound, reply_shown, reply_no_entry, reply_unsound}
 use Rattle.reacher.proofs.of_entry.Goals as goal
 
+-- what a refusal is shown by, whichever it is: which comes first is for the code to say
+ruleset refused = (rules, reply_unsound, reply_no_entry)
+
 pub returns-in-Refused : goal.returns-in-Refused
 returns-in-Refused c = search refused
 

@@ -1,30 +1,22 @@
 -- `reacher::following::add` meets its contract: an entry that is not marked has a place, since no more are counted than there are slots.
-use borrow.Author.Tests.{not-true, not-false}
-use Prim.Native.Nat.{◌<◌}
 use native.Mathlib.Omega.{arith}
 use Rattle.reacher.specs.Adding.{adds_new, adds_old, adds_none, room_left}
 use Rattle.reacher.proofs.following.add.Goals as goal
 
 pub returns-then-not-marks-j : goal.returns-then-not-marks-j
-returns-then-not-marks-j c = search (adds_new, not-true)
+returns-then-not-marks-j c = search adds_new
 
 pub returns-else-not-marks-j : goal.returns-else-not-marks-j
-returns-else-not-marks-j c = search (adds_old, not-false)
+returns-else-not-marks-j c = search adds_old
 
 pub returns-else-j-lt-ENTRIES : goal.returns-else-j-lt-ENTRIES
 returns-else-j-lt-ENTRIES c = search adds_none
 
 pub offset_bounds-order-count : goal.offset_bounds-order-count
-offset_bounds-order-count c =
-    let left : c.args.count < 128 = room_left c.requires c.if-j-lt-ENTRIES.true (c.if-not-marks-j.true) in
-    omega (arith, left)
+offset_bounds-order-count c = omega (arith, room_left c.requires c.if-j-lt-ENTRIES.true c.if-not-marks-j.true)
 
 pub bounds-order-count : goal.bounds-order-count
-bounds-order-count c =
-    let left : c.args.count < 128 = room_left c.requires c.if-j-lt-ENTRIES.true (c.if-not-marks-j.true) in
-    omega (arith, left)
+bounds-order-count c = omega (arith, room_left c.requires c.if-j-lt-ENTRIES.true c.if-not-marks-j.true)
 
 pub overflow_add-result : goal.overflow_add-result
-overflow_add-result c =
-    let left : c.args.count < 128 = room_left c.requires c.if-j-lt-ENTRIES.true (c.if-not-marks-j.true) in
-    omega (arith, left)
+overflow_add-result c = omega (arith, room_left c.requires c.if-j-lt-ENTRIES.true c.if-not-marks-j.true)

@@ -1,7 +1,6 @@
 -- `reacher::following::add_updates` meets its contract. The loop's invariant: what is left to add is what the link leads through; the measure is the link.
-use native.Mathlib.Omega.{arith}
 use Rattle.reacher.specs.Adding.{found}
-use Rattle.reacher.specs.Along.{falls_less, Passing, passing_none, passing_more, passing_all}
+use Rattle.reacher.specs.Along.{Passing}
 use Rattle.reacher.proofs.following.add_updates.Given as goal
 
 abbrev pub invariant-loop-link : goal.invariant-loop-link

@@ -1,0 +1,10 @@
+-- `reacher::touched::touched_by` meets its contract. The loop's invariant: what the entries before k touch is noted; the measure is how many are left.
+use Prim.Native.Nat.{◌-◌}
+use Rattle.reacher.specs.Touching.{Touching}
+use Rattle.reacher.proofs.touched.touched_by.Given as goal
+
+abbrev pub invariant-loop-k : goal.invariant-loop-k
+invariant-loop-k l = Touching l.t l.marks l.imports l.clock l.k
+
+abbrev pub decreases-loop-k : goal.decreases-loop-k
+decreases-loop-k l = l.t.n - l.k
