@@ -6,6 +6,8 @@ use mathlib.Core.List.{List}
 use mathlib.Core.Path.{◌≡◌, refl, sym}
 use Prim.Native.Nat.{ℕ, ◌≤◌, ◌-◌}
 use Rattle.refusals.specs.declared.Refusal.{Refusal}
+use mathlib.Core.Bool.{not}
+use mathlib.Core.Path.{ap}
 use Rattle.refusals.specs.declared.Answer.{Answer}
 use Rattle.refusals.specs.Numbering.{unless, first_fault}
 use Rattle.memory.specs.Recall.{kept_fits}
@@ -22,11 +24,11 @@ pub returns-then-not-kept_fits : goal.returns-then-not-kept_fits
 returns-then-not-kept_fits c =
     sym
     (fault_found (faultAt c.args.cells) 128 c.loop-k.k _ (omega arith)
-    c.loop-k.invariant.1 (fails Refusal.Unsound c.kept_fits.ensures refl c.if-not-kept_fits.true))
+    c.loop-k.invariant.1 (fails Refusal.Unsound c.kept_fits.ensures refl (ap not c.if-not-kept_fits.true)))
 
 pub loop-k-preserved : goal.loop-k-preserved
 loop-k-preserved c = (
   omega arith,
   fault_none (faultAt c.args.cells) c.loop-k.k
-      c.loop-k.invariant.1 (passes Refusal.Unsound c.kept_fits.ensures refl c.if-not-kept_fits.false),
+      c.loop-k.invariant.1 (passes Refusal.Unsound c.kept_fits.ensures refl (ap not c.if-not-kept_fits.false)),
 )

@@ -5,6 +5,8 @@ use mathlib.Core.List.{List}
 use mathlib.Core.Path.{◌≡◌, sym}
 use Prim.Native.Nat.{ℕ, ◌≤◌, ◌-◌}
 use Rattle.refusals.specs.declared.Refusal.{Refusal}
+use mathlib.Core.Bool.{not}
+use mathlib.Core.Path.{ap}
 use Rattle.refusals.specs.declared.Answer.{Answer}
 use Rattle.refusals.specs.Numbering.{first_fault}
 use Rattle.table.specs.declared.VariableSlot.{VariableSlot}
@@ -23,11 +25,11 @@ pub returns-then-not-in_range : goal.returns-then-not-in_range
 returns-then-not-in_range c =
     sym
     (fault_found (faultAt c.args.held) 32 c.loop-x.x _ (omega arith)
-    c.loop-x.invariant.1 (fails Refusal.Range c.in_range.ensures (number_said_lem _) c.if-not-in_range.true))
+    c.loop-x.invariant.1 (fails Refusal.Range c.in_range.ensures (number_said_lem _) (ap not c.if-not-in_range.true)))
 
 pub loop-x-preserved : goal.loop-x-preserved
 loop-x-preserved c = (
   omega arith,
   fault_none (faultAt c.args.held) c.loop-x.x
-      c.loop-x.invariant.1 (passes Refusal.Range c.in_range.ensures (number_said_lem _) c.if-not-in_range.false),
+      c.loop-x.invariant.1 (passes Refusal.Range c.in_range.ensures (number_said_lem _) (ap not c.if-not-in_range.false)),
 )

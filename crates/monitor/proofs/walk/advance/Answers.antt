@@ -29,11 +29,11 @@ loop-k-preserved c =
     let v = places.result.variable in
     let done = c.done.ensures in
     record {
-      slots = d.loop-k.inv.slots;
+      slots = d.loop-k.invariant.slots;
       within = omega (arith, c.loop-k-test.true);
-      walk = entry_taken c.args.m d.loop-k.k places.ensures c.args.s d.loop-k.inv.walk
+      walk = entry_taken c.args.m d.loop-k.k places.ensures c.args.s d.loop-k.invariant.walk
           at.judge-judged.ensures.0 at.judge-judged.ensures.1
-          (elim c.if-done.branch [ then-done way ↦ held_given o y v d.loop-k.held done way.if-done.true way.1.ensures way.2 | else-done way ↦ held_left o y v d.loop-k.held done way.if-done.false way.1 ]);
+          (elim c.if-done.branch [ then-done way ↦ held_given o y v d.loop-k.held done way.if-done.true way.number.ensures way.held-is | else-done way ↦ held_left o y v d.loop-k.held done way.if-done.false way.held-is ]);
     }
 
 -- all entries are taken
