@@ -1,0 +1,13 @@
+-- `words::checking::state_fault` meets its contract: the number of the words, then each of them, then the monitor in them.
+use native.Mathlib.Omega.{arith}
+use Rattle.words.specs.Checking.{length_decides, words_decide, monitor_decides}
+use Rattle.words.proofs.checking.state_fault.Goals as goal
+
+pub returns-then-state-ne-WORDS : goal.returns-then-state-ne-WORDS
+returns-then-state-ne-WORDS c = length_decides c.args.state.now (λ e. omega arith)
+
+pub returns-in-Refused : goal.returns-in-Refused
+returns-in-Refused c = search words_decide
+
+pub returns-in-Accepted : goal.returns-in-Accepted
+returns-in-Accepted c = search monitor_decides
