@@ -1,10 +1,7 @@
 -- `reader::head::imports` meets its contract. The loop's invariant: what is left to read, from here, gives what all of it gives from the start.
-use mathlib.Core.Path.{◌≡◌, sym, ◌∙◌}
+use mathlib.Core.Path.{◌≡◌}
 use Prim.Native.Nat.{◌+◌, ◌-◌, ◌≤◌}
-use native.Mathlib.Nat.{sub-zero}
-use native.Mathlib.Omega.{arith}
 use Rattle.script.specs.Reader.{imports}
-use Rattle.reader.specs.Heads.{import_cut, import_next, imports_done}
 use Rattle.reader.proofs.head.imports.Given as goal
 
 abbrev pub invariant-loop-i : goal.invariant-loop-i

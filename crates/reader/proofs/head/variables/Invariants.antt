@@ -1,16 +1,7 @@
 -- `reader::head::variables` meets its contract. The loop's invariant: what is left to read, from here, gives what all of it gives from the start.
-use borrow.Author.Tests.{eq-eqb, ne_eqb, not-true, not-false}
-use mathlib.Core.Bool.{true, false, ◌||◌}
-use mathlib.Core.Logic.{⊎_elim}
-use mathlib.Core.Path.{◌≡◌, sym, ◌∙◌, ap₂}
-use Prim.Native.Nat.{ℕ, ◌+◌, ◌*◌, ◌-◌, ◌≤◌}
-use native.Mathlib.Nat.{sub-zero}
-use native.Mathlib.Omega.{arith}
-use lib.Dec.{eqb}
-use Rattle.bits.specs.declared.Field.{Field}
-use Rattle.bits.specs.Bits.{field_at}
+use mathlib.Core.Path.{◌≡◌}
+use Prim.Native.Nat.{◌+◌, ◌*◌, ◌-◌, ◌≤◌}
 use Rattle.script.specs.Reader.{variables}
-use Rattle.reader.specs.Heads.{variable_cut, number_cut, variable_refused, variable_next, variables_done}
 use Rattle.reader.proofs.head.variables.Given as goal
 
 abbrev pub invariant-loop-x : goal.invariant-loop-x

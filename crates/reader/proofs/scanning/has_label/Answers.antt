@@ -1,9 +1,9 @@
 -- By the test of the number, then of the entry.
 use native.Mathlib.Omega.{arith}
-use borrow.Author.Tests.{lt-ltb, le-ltb}
+use borrow.Author.Tests.{lt-ltb}
 use Rattle.table.specs.Tables.{entry_at}
 use Rattle.reader.proofs.scanning.has_label.Goals as goal
 
 pub returns-then-k-t : goal.returns-then-k-t
 unfolding entry_at
-returns-then-k-t c = let a = c.args in rw (lt-ltb a.k a.t1.n (omega arith)) c.labelled.ensures
+returns-then-k-t c = let a = c.args in rw (lt-ltb a.k a.t.n (omega arith)) c.labelled.ensures

@@ -7,18 +7,14 @@ use Rattle.reader.specs.ScanLaws.{scan_long, scan_no_table, block_begins}
 use Rattle.reader.proofs.scanning.scan_script.Goals as goal
 
 pub returns-then-s-gt4096 : goal.returns-then-s-gt4096
-returns-then-s-gt4096 c = let a = c.args in c.refused_scan.ensures ∙ sym (scan_long a.s.now a.k (omega arith))
+returns-then-s-gt4096 c = c.refused_scan.ensures ∙ sym (scan_long c.args.s.now c.args.k (omega arith))
 
 pub labels_from-requires : goal.labels_from-requires
 labels_from-requires c =
-    let p = c in
-    let a = p.args in
-    let there = stage_accepted p.packed-stage.result _ p.packed-stage.ensures c.in-Accepted.is in
-    (omega arith, there ∙ ap (got p.packed-stage.result.table) (sym (block_begins a.s.now _ _ there).0))
+    let there = stage_accepted c.packed-stage.result _ c.packed-stage.ensures c.in-Accepted.is in
+    (omega arith, there ∙ ap (got c.packed-stage.result.table) (sym (block_begins c.args.s.now _ _ there).0))
 
 pub returns-in-Refused : goal.returns-in-Refused
 returns-in-Refused c =
-    let p = c in
-    let a = p.args in
     c.refused_scan-in-Refused.ensures
-    ∙ sym (scan_no_table a.s.now a.k _ (omega arith) (stage_refused p.packed-stage.result _ _ p.packed-stage.ensures c.in-Refused.is))
+    ∙ sym (scan_no_table c.args.s.now c.args.k _ (omega arith) (stage_refused c.packed-stage.result _ _ c.packed-stage.ensures c.in-Refused.is))
