@@ -1,0 +1,12 @@
+-- `door::alarms::nimbra_next_alarm` meets its contract. The loop's invariant: the first place from k on is the first from `from` on.
+use mathlib.Core.Path.{◌≡◌, refl}
+use Prim.Native.Nat.{◌-◌}
+use lib.ListN.{length}
+use Rattle.door.specs.Alarms.{next_alarm, next_here, next_on, next_none}
+use Rattle.door.proofs.alarms.nimbra_next_alarm.Given as goal
+
+abbrev pub invariant-loop-k : goal.invariant-loop-k
+invariant-loop-k l = next_alarm l.results l.k ≡ next_alarm l.results l.from
+
+abbrev pub decreases-loop-k : goal.decreases-loop-k
+decreases-loop-k l = length l.results - l.k

@@ -1,0 +1,16 @@
+-- `door::reaching::nimbra_reach` meets its contract: the sizes, then 29, then the reach.
+use native.Mathlib.Omega.{arith}
+use Rattle.door.specs.Reaching.{found_slotted, reach_words, reach_marks, reach_unsound, reach_shown}
+use Rattle.door.proofs.reaching.nimbra_reach.Goals as goal
+
+pub returns-then-state-ne-WORDS : goal.returns-then-state-ne-WORDS
+returns-then-state-ne-WORDS c = reach_words _ _ _ (λ e. omega arith)
+
+pub returns-then-marks-ne177 : goal.returns-then-marks-ne177
+returns-then-marks-ne177 c = reach_marks _ _ _ (omega arith) (λ e. omega arith)
+
+pub returns-in-Refused : goal.returns-in-Refused
+returns-in-Refused c = search reach_unsound
+
+pub returns-in-Accepted : goal.returns-in-Accepted
+returns-in-Accepted c = search reach_shown

@@ -1,0 +1,13 @@
+-- `door::starting::nimbra_start` meets its contract: the size of the words, then the script, then a fresh monitor.
+use native.Mathlib.Omega.{arith}
+use Rattle.door.specs.Starting.{start_size, start_refused, start_done}
+use Rattle.door.proofs.starting.nimbra_start.Goals as goal
+
+pub returns-then-state-ne-WORDS : goal.returns-then-state-ne-WORDS
+returns-then-state-ne-WORDS c = start_size _ _ (λ e. omega arith)
+
+pub returns-in-Refused : goal.returns-in-Refused
+returns-in-Refused c = search start_refused
+
+pub returns-in-Accepted : goal.returns-in-Accepted
+returns-in-Accepted c = search start_done

@@ -1,0 +1,7 @@
+-- `replaying::turning::follow` meets its contract: by the stage.
+use Rattle.lines.specs.Laying.{lays_length}
+use Rattle.replaying.specs.Turning.{stays_over}
+use Rattle.replaying.proofs.turning.follow.Goals as goal
+
+pub returns-in-Over : goal.returns-in-Over
+returns-in-Over c = search stays_over

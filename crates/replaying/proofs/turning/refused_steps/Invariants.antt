@@ -1,0 +1,18 @@
+-- `replaying::turning::refused_steps` meets its contract. The loop's invariant: whatever turn follows from here is one from the start; the measure is how many bytes are left.
+use mathlib.Core.Logic.{⊎_elim}
+use mathlib.Core.Path.{refl, subst}
+use lib.ListN.{length}
+use Prim.Native.Nat.{◌-◌}
+use native.Mathlib.Omega.{arith}
+use Rattle.lines.specs.Laying.{lays_length}
+use Rattle.replaying.specs.declared.framing.Record.{Record}
+use Rattle.replaying.specs.Framing.{Framed}
+use Rattle.replaying.specs.Turning.{Going, awaiting, awaiting_turned, framed_none, going_none}
+use Rattle.replaying.specs.Refusing.{going_refused}
+use Rattle.replaying.proofs.turning.refused_steps.Given as goal
+
+abbrev pub invariant-loop-out : goal.invariant-loop-out
+invariant-loop-out l = Going (awaiting l.p.texts l.p.sizes l.p.monitor l.p.accepted l.initial.refused) l.ended l.input l.from l.initial.out l.start (awaiting l.p.texts l.p.sizes l.p.monitor l.p.accepted l.refused) l.at l.out l.filled
+
+abbrev pub decreases-loop-out : goal.decreases-loop-out
+decreases-loop-out l = length l.input - l.at
