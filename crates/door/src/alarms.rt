@@ -13,8 +13,7 @@ fn calls(word: u64) -> bool
 }
 
 // The first place from `from` on with such a word, and the number of slots where there is none.
-#[unsafe(no_mangle)]
-pub extern "C" fn nimbra_next_alarm(results: &[u64], from: u64) -> u64
+pub fn nimbra_next_alarm(results: &[u64], from: u64) -> u64
     ensures { result ≡ next_alarm results.now from }
 {
     let mut k: usize = from as usize;

@@ -23,8 +23,7 @@ fn show_place(answer: Answer, span: Span, place: &mut [u64]) -> u8
 }
 
 // Where the text of an entry's label stands: "refused (script numbers, then 30)".
-#[unsafe(no_mangle)]
-pub extern "C" fn nimbra_label(script: &[u8], entry: u64, place: &mut [u64]) -> u8
+pub fn nimbra_label(script: &[u8], entry: u64, place: &mut [u64]) -> u8
     ensures { Leaves (label_door script.now entry place.old) result place.new }
 {
     if place.len() != 2 {
@@ -37,8 +36,7 @@ pub extern "C" fn nimbra_label(script: &[u8], entry: u64, place: &mut [u64]) -> 
 }
 
 // Where the block of labels stands, as `nimbra_write` takes it.
-#[unsafe(no_mangle)]
-pub extern "C" fn nimbra_labels(script: &[u8], place: &mut [u64]) -> u8
+pub fn nimbra_labels(script: &[u8], place: &mut [u64]) -> u8
     ensures { Leaves (labels_door script.now place.old) result place.new }
 {
     if place.len() != 2 {

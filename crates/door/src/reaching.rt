@@ -49,8 +49,7 @@ fn show_reach(found: Reach, marks: &mut [u8]) -> u8
 }
 
 // The reach of an entry: "29 before all else in ... a reach, 30 last".
-#[unsafe(no_mangle)]
-pub extern "C" fn nimbra_reach(state: &[u64], entry: u64, marks: &mut [u8]) -> u8
+pub fn nimbra_reach(state: &[u64], entry: u64, marks: &mut [u8]) -> u8
     ensures { Leaves (reach_door state.now entry marks.old) result marks.new }
 {
     if state.len() != WORDS {

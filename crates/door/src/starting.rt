@@ -7,8 +7,7 @@ use refusals::Answer;
 use words::WORDS;
 
 // "a monitor that holds that table and no accepted step yet", in the caller's words.
-#[unsafe(no_mangle)]
-pub extern "C" fn nimbra_start(script: &[u8], state: &mut [u64]) -> u8
+pub fn nimbra_start(script: &[u8], state: &mut [u64]) -> u8
     ensures { Leaves (start_door script.now state.old) result state.new }
 {
     if state.len() != WORDS {

@@ -28,8 +28,7 @@ fn step_on(state: &mut [u64], step: &[u8], results: &mut [u64]) -> u8
 }
 
 // A step: 29 before all else, then what the bytes say, then the entries in order.
-#[unsafe(no_mangle)]
-pub extern "C" fn nimbra_step(state: &mut [u64], step: &[u8], results: &mut [u64]) -> u8
+pub fn nimbra_step(state: &mut [u64], step: &[u8], results: &mut [u64]) -> u8
     ensures { StepLeaves (step_door state.old step.now results.old) result state.new results.new }
 {
     if state.len() != WORDS {
@@ -45,8 +44,7 @@ pub extern "C" fn nimbra_step(state: &mut [u64], step: &[u8], results: &mut [u64
 }
 
 // The same without the test for 29: for words that nimbra_start and the steps alone have written.
-#[unsafe(no_mangle)]
-pub extern "C" fn nimbra_step_held(state: &mut [u64], step: &[u8], results: &mut [u64]) -> u8
+pub fn nimbra_step_held(state: &mut [u64], step: &[u8], results: &mut [u64]) -> u8
     ensures { Held state.old step.now results.old result state.new results.new }
 {
     if state.len() != WORDS {

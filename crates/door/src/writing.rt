@@ -24,8 +24,7 @@ fn show_size(written: Written, size: &mut [u64]) -> u8
 }
 
 // The script of the table in words: 29, then what the writer answers.
-#[unsafe(no_mangle)]
-pub extern "C" fn nimbra_write(state: &[u64], labels: &[u8], out: &mut [u8], size: &mut [u64]) -> u8
+pub fn nimbra_write(state: &[u64], labels: &[u8], out: &mut [u8], size: &mut [u64]) -> u8
     ensures { WriteLeaves (write_door state.now labels.now out.old size.old) result out.new size.new }
 {
     if state.len() != WORDS {
