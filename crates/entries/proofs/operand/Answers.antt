@@ -1,5 +1,5 @@
 -- `entries::operand` meets its contract: a refusal is handed on; else the operand is the one at the bit after what was taken.
-use Rattle.entries.specs.Takings.{operand_after_lem, none_after}
+use Rattle.entries.specs.Takings.{none_after}
 use Rattle.entries.proofs.operand.Goals as goal
 
 -- there is no operand

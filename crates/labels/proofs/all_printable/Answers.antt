@@ -1,8 +1,7 @@
 -- `labels::all_printable` meets its contract. The loop's invariant: what is left of the text decides; the measure is its length.
 use mathlib.Core.Path.{◌≡◌, sym, ◌∙◌}
-use Prim.Native.Nat.{◌≤◌, ◌-◌}
 use native.Mathlib.Omega.{arith}
-use lib.ListN.{length, drop}
+use lib.ListN.{length}
 use lib.Seq.{drop-length}
 use Rattle.script.specs.Labels.{printable}
 use Rattle.labels.specs.Laws.{printable_next, printable_low, printable_high}

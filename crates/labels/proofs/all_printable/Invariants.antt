@@ -1,11 +1,8 @@
 -- `labels::all_printable` meets its contract. The loop's invariant: what is left of the text decides; the measure is its length.
-use mathlib.Core.Path.{◌≡◌, sym, ◌∙◌}
+use mathlib.Core.Path.{◌≡◌}
 use Prim.Native.Nat.{◌≤◌, ◌-◌}
-use native.Mathlib.Omega.{arith}
 use lib.ListN.{length, drop}
-use lib.Seq.{drop-length}
 use Rattle.script.specs.Labels.{printable}
-use Rattle.labels.specs.Laws.{printable_next, printable_low, printable_high}
 use Rattle.labels.proofs.all_printable.Given as goal
 
 abbrev pub invariant-loop-i : goal.invariant-loop-i

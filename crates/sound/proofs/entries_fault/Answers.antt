@@ -1,16 +1,12 @@
 -- `sound::entries_fault` meets its contract. The loop's invariant: the sorts of the entries passed are kept, and none of them has a fault.
 use borrow.Author.Rules.{rules}
-use lib.ListN.{length, length-set}
-use mathlib.Core.List.{List}
-use mathlib.Core.Path.{◌≡◌, refl, sym, ◌∙◌}
-use Prim.Native.Nat.{ℕ, ◌≤◌, ◌-◌}
+use lib.ListN.{length-set}
+use mathlib.Core.Path.{refl, sym, ◌∙◌}
 use native.Mathlib.Nat.{not-suc-le-zero}
-use Rattle.refusals.specs.declared.Answer.{Answer}
 use Rattle.refusals.specs.Numbering.{first_fault}
-use Rattle.table.specs.declared.Table.{Table}
 use Rattle.table.specs.Tables.{entry_at}
-use Rattle.sound.specs.Laws.{Sorts, entry_fault, entry_judged, sorts_more}
-use Rattle.sound.specs.Firsts.{fault_none, faults_none, fault_found}
+use Rattle.sound.specs.Laws.{entry_fault, entry_judged, sorts_more}
+use Rattle.sound.specs.Firsts.{fault_none, fault_found}
 use Rattle.sound.proofs.entries_fault.Goals as goal
 
 pub loop-k-init : goal.loop-k-init

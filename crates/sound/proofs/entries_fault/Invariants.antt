@@ -1,15 +1,12 @@
 -- `sound::entries_fault` meets its contract. The loop's invariant: the sorts of the entries passed are kept, and none of them has a fault.
-use lib.ListN.{length, length-set}
+use lib.ListN.{length}
 use mathlib.Core.List.{List}
-use mathlib.Core.Path.{◌≡◌, refl, sym, ◌∙◌}
+use mathlib.Core.Path.{◌≡◌}
 use Prim.Native.Nat.{ℕ, ◌≤◌, ◌-◌}
-use native.Mathlib.Nat.{not-suc-le-zero}
 use Rattle.refusals.specs.declared.Answer.{Answer}
 use Rattle.refusals.specs.Numbering.{first_fault}
 use Rattle.table.specs.declared.Table.{Table}
-use Rattle.table.specs.Tables.{entry_at}
-use Rattle.sound.specs.Laws.{Sorts, entry_fault, entry_judged, sorts_more}
-use Rattle.sound.specs.Firsts.{fault_none, faults_none, fault_found}
+use Rattle.sound.specs.Laws.{Sorts, entry_fault}
 use Rattle.sound.proofs.entries_fault.Given as goal
 
 -- how far the loop has come

@@ -1,17 +1,11 @@
 -- `sound::variables_fault` meets its contract. The loop's invariant: no variable passed has a fault.
 use borrow.Author.Rules.{rules}
-use borrow.Author.Tests.{not-true, not-false}
 use mathlib.Core.Bool.{Bool}
-use mathlib.Core.List.{List}
 use mathlib.Core.Path.{◌≡◌, sym, ap, ◌∙◌}
-use Prim.Native.Nat.{ℕ, ◌≤◌, ◌-◌}
 use Rattle.refusals.specs.declared.Refusal.{Refusal}
 use Rattle.refusals.specs.declared.Answer.{Answer}
 use Rattle.refusals.specs.Numbering.{unless, first_fault}
-use Rattle.table.specs.declared.VariableSlot.{VariableSlot}
-use Rattle.table.specs.Tables.{number_at}
-use Rattle.table.specs.Faults.{number_fault}
-use Rattle.sound.specs.Firsts.{fault_none, faults_none, fault_found, number_said_lem}
+use Rattle.sound.specs.Firsts.{fault_none, fault_found, number_said_lem}
 use Rattle.sound.proofs.variables_fault.Invariants.{faultAt}
 use Rattle.sound.proofs.variables_fault.Goals as goal
 

@@ -1,16 +1,12 @@
 -- `sound::variables_fault` meets its contract. The loop's invariant: no variable passed has a fault.
-use borrow.Author.Tests.{not-true, not-false}
-use mathlib.Core.Bool.{Bool}
 use mathlib.Core.List.{List}
-use mathlib.Core.Path.{◌≡◌, sym, ap, ◌∙◌}
+use mathlib.Core.Path.{◌≡◌}
 use Prim.Native.Nat.{ℕ, ◌≤◌, ◌-◌}
-use Rattle.refusals.specs.declared.Refusal.{Refusal}
 use Rattle.refusals.specs.declared.Answer.{Answer}
-use Rattle.refusals.specs.Numbering.{unless, first_fault}
+use Rattle.refusals.specs.Numbering.{first_fault}
 use Rattle.table.specs.declared.VariableSlot.{VariableSlot}
 use Rattle.table.specs.Tables.{number_at}
 use Rattle.table.specs.Faults.{number_fault}
-use Rattle.sound.specs.Firsts.{fault_none, faults_none, fault_found, number_said_lem}
 use Rattle.sound.proofs.variables_fault.Given as goal
 
 abbrev pub faultAt : List VariableSlot → ℕ → Answer

@@ -1,10 +1,6 @@
 -- Where there is room, the field is put by a window; elsewhere nothing is.
 use mathlib.Core.Path.{sym, ◌∙◌}
-use Prim.Native.Nat.{◌+◌, ◌*◌, ◌≤◌}
-use native.Mathlib.Omega.{arith}
-use lib.ListN.{length}
 use Rattle.bits.specs.Window.{not_put}
-use Rattle.bits.proofs.Room.{has_room}
 use Rattle.bits.proofs.putting.put.Goals as goal
 
 pub returns-else-has_room : goal.returns-else-has_room

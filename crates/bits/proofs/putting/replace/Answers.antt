@@ -1,6 +1,6 @@
 -- Nothing is shifted out of the window's 64 bits.
 use native.Mathlib.Omega.{arith}
-use Rattle.bits.proofs.Shifts.{one_positive, front_small, whole_small, whole_replaced}
+use Rattle.bits.proofs.Shifts.{front_small, whole_small, whole_replaced}
 use Rattle.bits.proofs.putting.replace.Goals as goal
 
 pub overflow_add-with : goal.overflow_add-with

@@ -1,11 +1,11 @@
 -- The bytes so far are stored.
 use mathlib.Core.List.{List}
-use mathlib.Core.Path.{◌≡◌, refl, ap, ◌∙◌}
-use Prim.Native.Nat.{ℕ, ◌+◌, ◌-◌, ◌≤◌}
+use mathlib.Core.Path.{refl, ap}
+use Prim.Native.Nat.{ℕ, ◌+◌}
 use native.Mathlib.Numerals.{add-one}
 use native.Mathlib.Omega.{arith}
-use lib.ListN.{length, set}
-use Rattle.bits.specs.Window.{stored, byte_of, length_stored}
+use lib.ListN.{set}
+use Rattle.bits.specs.Window.{stored, byte_of}
 use Rattle.bits.proofs.putting.store.Goals as goal
 
 pub loop-i-init : goal.loop-i-init

@@ -1,12 +1,7 @@
 -- The bytes so far are stored.
-use borrow.Author.Rules.{rules}
-use mathlib.Core.List.{List}
-use mathlib.Core.Path.{◌≡◌, refl, ap, ◌∙◌}
-use Prim.Native.Nat.{ℕ, ◌+◌, ◌-◌, ◌≤◌}
-use native.Mathlib.Numerals.{add-one}
-use native.Mathlib.Omega.{arith}
-use lib.ListN.{length, set}
-use Rattle.bits.specs.Window.{stored, byte_of, length_stored}
+use mathlib.Core.Path.{◌≡◌}
+use Prim.Native.Nat.{◌-◌, ◌≤◌}
+use Rattle.bits.specs.Window.{stored, byte_of}
 use Rattle.bits.proofs.putting.store.Given as goal
 
 abbrev pub invariant-loop-i : goal.invariant-loop-i

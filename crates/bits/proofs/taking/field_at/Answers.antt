@@ -1,7 +1,5 @@
 -- By the test for room, which is the definition's own.
-use lib.ListN.{length}
 use Rattle.bits.specs.Bits.{field_at}
-use Rattle.bits.proofs.Room.{has_room}
 use Rattle.bits.proofs.taking.field_at.Goals as goal
 
 pub returns-then-has_room : goal.returns-then-has_room

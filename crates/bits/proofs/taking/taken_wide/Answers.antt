@@ -2,7 +2,7 @@
 use native.Mathlib.Nat.{one-mul}
 use native.Mathlib.Omega.{arith}
 use lib.Bits.{and_mask}
-use lib.Pow.{pow_pos, shl_exact}
+use lib.Pow.{shl_exact}
 use Rattle.bits.specs.Octets.{window_shifted}
 use Rattle.bits.proofs.taking.taken_wide.Goals as goal
 

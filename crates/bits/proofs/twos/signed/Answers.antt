@@ -1,6 +1,6 @@
 -- Below 2^47 the number itself, below 2^48 less 2^48, and -1 beyond.
 use native.Mathlib.Omega.{arith}
-use Rattle.bits.proofs.Complement.{signed_low, lowered_fits, lowered_is, signed_beyond}
+use Rattle.bits.proofs.Complement.{signed_low, lowered_is, signed_beyond}
 use Rattle.bits.proofs.twos.signed.Goals as goal
 
 pub returns-then-v-lt140737488355328 : goal.returns-then-v-lt140737488355328

@@ -1,5 +1,5 @@
 -- The number itself, a negative one and 2^48, and 0 below -2^48.
-use Rattle.bits.proofs.Complement.{unsigned_cast, unsigned_self, unsigned_below, raised_fits, raised_cast, raised_is}
+use Rattle.bits.proofs.Complement.{unsigned_self, unsigned_below, raised_is}
 use Rattle.bits.proofs.twos.unsigned.Goals as goal
 
 pub returns-then-z-ge0 : goal.returns-then-z-ge0

@@ -1,11 +1,9 @@
 use borrow.Author.Rules.{rules}
-use mathlib.Core.Path.{◌≡◌, sym, ◌∙◌, ap}
-use Prim.Native.Nat.{ℕ, ◌≤◌, ◌+◌, ◌-◌, ◌*◌}
+use mathlib.Core.Path.{sym}
+use Prim.Native.Nat.{◌+◌}
 use native.Mathlib.Omega.{arith}
 use Rattle.bits.specs.Bits.{number_from, bits_at}
 use Rattle.bits.specs.Octets.{window_lt, window_more}
-use Rattle.bits.proofs.window.window_of.Reads as reads
-use Rattle.bits.proofs.window.window_of.Lts as lts
 use Rattle.bits.proofs.window.window_of.Goals as goal
 
 -- src/taking.rt:15:5

@@ -1,11 +1,6 @@
-use borrow.Author.Rules.{rules}
-use mathlib.Core.Path.{◌≡◌, sym, ◌∙◌, ap}
-use Prim.Native.Nat.{ℕ, ◌≤◌, ◌+◌, ◌-◌, ◌*◌}
-use native.Mathlib.Omega.{arith}
-use Rattle.bits.specs.Bits.{number_from, bits_at}
-use Rattle.bits.specs.Octets.{window_lt, window_more}
-use Rattle.bits.proofs.window.window_of.Reads as reads
-use Rattle.bits.proofs.window.window_of.Lts as lts
+use mathlib.Core.Path.{◌≡◌}
+use Prim.Native.Nat.{◌≤◌, ◌-◌, ◌*◌}
+use Rattle.bits.specs.Bits.{bits_at}
 use Rattle.bits.proofs.window.window_of.Given as goal
 
 abbrev pub invariant-loop-i : goal.invariant-loop-i

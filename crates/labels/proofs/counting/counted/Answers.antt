@@ -1,14 +1,8 @@
-use mathlib.Core.Logic.{⊎_elim}
-use mathlib.Core.Path.{◌≡◌, ◌∙◌, ap}
-use Prim.Native.Nat.{ℕ, ◌≤◌, ◌-◌}
 use native.Mathlib.Nat.{add-zero}
 use native.Mathlib.Omega.{arith}
 use borrow.Author.Rules.{rules}
 use Rattle.labels.specs.Counting.{labels_more}
 use Rattle.table.specs.Tables.{entry_at, labels_before}
-use Rattle.labels.proofs.counting.counted.Reads as reads
-use Rattle.labels.proofs.counting.counted.Lts as lts
-use Rattle.labels.proofs.counting.labelled.Reads as labelled-reads
 use Rattle.labels.proofs.counting.counted.Goals.{then-labelled, else-labelled}
 use Rattle.labels.proofs.counting.counted.Goals as goal
 

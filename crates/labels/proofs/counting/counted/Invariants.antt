@@ -1,13 +1,6 @@
-use mathlib.Core.Logic.{⊎_elim}
-use mathlib.Core.Path.{◌≡◌, ◌∙◌, ap}
-use Prim.Native.Nat.{ℕ, ◌≤◌, ◌-◌}
-use native.Mathlib.Nat.{add-zero}
-use native.Mathlib.Omega.{arith}
-use Rattle.labels.specs.Counting.{labels_more}
-use Rattle.table.specs.Tables.{entry_at, labels_before}
-use Rattle.labels.proofs.counting.counted.Reads as reads
-use Rattle.labels.proofs.counting.counted.Lts as lts
-use Rattle.labels.proofs.counting.labelled.Reads as labelled-reads
+use mathlib.Core.Path.{◌≡◌}
+use Prim.Native.Nat.{◌≤◌, ◌-◌}
+use Rattle.table.specs.Tables.{labels_before}
 use Rattle.labels.proofs.counting.counted.Given as goal
 
 abbrev pub invariant-loop-i : goal.invariant-loop-i

@@ -3,9 +3,6 @@ use borrow.Author.Tests.{ne_eqb}
 use Rattle.table.specs.Kinds.{labelled}
 use Rattle.kinds.specs.declared.Apart.{Apart}
 use Rattle.kinds.specs.Apart.{apart_of}
-use Rattle.labels.proofs.counting.labelled.Reads as reads
-use Rattle.labels.proofs.counting.labelled.Lts as lts
-use Rattle.kinds.proofs.apart_of.Reads as apart-of-reads
 use Rattle.labels.proofs.counting.labelled.Goals as goal
 
 -- src/counting.rt:15:9

@@ -1,17 +1,12 @@
 -- `monitor::kept::cells_fault` meets its contract. The loop's invariant: no cell passed has a fault.
 use borrow.Author.Rules.{rules}
-use lib.ListN.{get_or}
 use native.Mathlib.Omega.{arith}
-use mathlib.Core.List.{List}
-use mathlib.Core.Path.{◌≡◌, refl, sym}
-use Prim.Native.Nat.{ℕ, ◌≤◌, ◌-◌}
+use mathlib.Core.Path.{refl, sym}
 use Rattle.refusals.specs.declared.Refusal.{Refusal}
 use mathlib.Core.Bool.{not}
 use mathlib.Core.Path.{ap}
-use Rattle.refusals.specs.declared.Answer.{Answer}
-use Rattle.refusals.specs.Numbering.{unless, first_fault}
-use Rattle.memory.specs.Recall.{kept_fits}
-use Rattle.sound.specs.Firsts.{fault_none, faults_none, fault_found}
+use Rattle.refusals.specs.Numbering.{first_fault}
+use Rattle.sound.specs.Firsts.{fault_none, fault_found}
 use Rattle.monitor.specs.Unsound.{passes, fails}
 use Rattle.monitor.proofs.kept.cells_fault.Invariants.{faultAt}
 use Rattle.monitor.proofs.kept.cells_fault.Goals as goal

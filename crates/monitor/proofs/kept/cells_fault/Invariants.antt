@@ -1,15 +1,12 @@
 -- `monitor::kept::cells_fault` meets its contract. The loop's invariant: no cell passed has a fault.
 use lib.ListN.{get_or}
-use native.Mathlib.Omega.{arith}
 use mathlib.Core.List.{List}
-use mathlib.Core.Path.{◌≡◌, refl, sym}
+use mathlib.Core.Path.{◌≡◌}
 use Prim.Native.Nat.{ℕ, ◌≤◌, ◌-◌}
 use Rattle.refusals.specs.declared.Refusal.{Refusal}
 use Rattle.refusals.specs.declared.Answer.{Answer}
 use Rattle.refusals.specs.Numbering.{unless, first_fault}
 use Rattle.memory.specs.Recall.{kept_fits}
-use Rattle.sound.specs.Firsts.{fault_none, faults_none, fault_found}
-use Rattle.monitor.specs.Unsound.{passes, fails}
 use Rattle.monitor.proofs.kept.cells_fault.Given as goal
 
 abbrev pub faultAt : List ℕ → ℕ → Answer

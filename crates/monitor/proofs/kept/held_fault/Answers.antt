@@ -1,18 +1,12 @@
 -- `monitor::kept::held_fault` meets its contract. The loop's invariant: no number passed has a fault.
 use borrow.Author.Rules.{rules}
 use native.Mathlib.Omega.{arith}
-use mathlib.Core.List.{List}
-use mathlib.Core.Path.{◌≡◌, sym}
-use Prim.Native.Nat.{ℕ, ◌≤◌, ◌-◌}
+use mathlib.Core.Path.{sym}
 use Rattle.refusals.specs.declared.Refusal.{Refusal}
 use mathlib.Core.Bool.{not}
 use mathlib.Core.Path.{ap}
-use Rattle.refusals.specs.declared.Answer.{Answer}
 use Rattle.refusals.specs.Numbering.{first_fault}
-use Rattle.table.specs.declared.VariableSlot.{VariableSlot}
-use Rattle.table.specs.Tables.{number_at}
-use Rattle.table.specs.Faults.{number_fault}
-use Rattle.sound.specs.Firsts.{fault_none, faults_none, fault_found, number_said_lem}
+use Rattle.sound.specs.Firsts.{fault_none, fault_found, number_said_lem}
 use Rattle.monitor.specs.Unsound.{passes, fails}
 use Rattle.monitor.proofs.kept.held_fault.Invariants.{faultAt}
 use Rattle.monitor.proofs.kept.held_fault.Goals as goal

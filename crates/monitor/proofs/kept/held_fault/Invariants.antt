@@ -1,16 +1,12 @@
 -- `monitor::kept::held_fault` meets its contract. The loop's invariant: no number passed has a fault.
-use native.Mathlib.Omega.{arith}
 use mathlib.Core.List.{List}
-use mathlib.Core.Path.{◌≡◌, sym}
+use mathlib.Core.Path.{◌≡◌}
 use Prim.Native.Nat.{ℕ, ◌≤◌, ◌-◌}
-use Rattle.refusals.specs.declared.Refusal.{Refusal}
 use Rattle.refusals.specs.declared.Answer.{Answer}
 use Rattle.refusals.specs.Numbering.{first_fault}
 use Rattle.table.specs.declared.VariableSlot.{VariableSlot}
 use Rattle.table.specs.Tables.{number_at}
 use Rattle.table.specs.Faults.{number_fault}
-use Rattle.sound.specs.Firsts.{fault_none, faults_none, fault_found, number_said_lem}
-use Rattle.monitor.specs.Unsound.{passes, fails}
 use Rattle.monitor.proofs.kept.held_fault.Given as goal
 
 abbrev pub faultAt : List VariableSlot → ℕ → Answer

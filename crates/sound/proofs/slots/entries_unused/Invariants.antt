@@ -1,14 +1,12 @@
 -- `sound::slots::entries_unused` meets its contract. The loop's invariant: each entry slot passed, from n on, is the constant 0.
-use borrow.Author.Tests.{not-true, not-false}
 use mathlib.Core.Bool.{Bool}
 use mathlib.Core.List.{List}
-use mathlib.Core.Path.{sym, ◌∙◌}
 use Prim.Native.Nat.{ℕ, ◌≤◌, ◌-◌}
 use Rattle.table.specs.declared.EntrySlot.{EntrySlot}
 use Rattle.table.specs.Kinds.{operands_of}
 use Rattle.table.specs.Tables.{zero_constant}
 use Rattle.sound.specs.Judged.{slot_entry}
-use Rattle.sound.specs.Slots.{Passed, passed_none, passed_more, every_slot_lem, slot_fails}
+use Rattle.sound.specs.Slots.{Passed}
 use Rattle.sound.proofs.slots.entries_unused.Given as goal
 
 abbrev pub unused : List EntrySlot → ℕ → Bool

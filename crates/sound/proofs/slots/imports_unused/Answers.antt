@@ -1,10 +1,6 @@
 -- `sound::slots::imports_unused` meets its contract. The loop's invariant: each import slot passed, from q on, is a condition.
-use mathlib.Core.Bool.{Bool, false, not}
-use mathlib.Core.List.{List}
 use mathlib.Core.Path.{sym}
-use Prim.Native.Nat.{ℕ, ◌≤◌, ◌-◌}
-use lib.ListN.{get_or}
-use Rattle.sound.specs.Slots.{Passed, passed_none, passed_more, every_slot_lem, slot_fails}
+use Rattle.sound.specs.Slots.{every_slot_lem, slot_fails}
 use Rattle.sound.proofs.slots.imports_unused.Invariants.{unused}
 use Rattle.sound.proofs.slots.imports_unused.Goals as goal
 

@@ -1,10 +1,9 @@
 -- `sound::slots::imports_unused` meets its contract. The loop's invariant: each import slot passed, from q on, is a condition.
 use mathlib.Core.Bool.{Bool, false, not}
 use mathlib.Core.List.{List}
-use mathlib.Core.Path.{sym}
 use Prim.Native.Nat.{ℕ, ◌≤◌, ◌-◌}
 use lib.ListN.{get_or}
-use Rattle.sound.specs.Slots.{Passed, passed_none, passed_more, every_slot_lem, slot_fails}
+use Rattle.sound.specs.Slots.{Passed}
 use Rattle.sound.proofs.slots.imports_unused.Given as goal
 
 abbrev pub unused : List Bool → ℕ → Bool

@@ -1,7 +1,6 @@
 -- `sound::slots::limits_fault` meets its contract: what the counts and the slots say is the definition's test.
-use borrow.Author.Tests.{not-true, not-false}
 use mathlib.Core.Path.{◌≡◌, refl, sym, ◌∙◌}
-use mathlib.Core.Bool.{Bool, true, false, not}
+use mathlib.Core.Bool.{Bool, true, false}
 use Rattle.sound.specs.Slots.{limits_said}
 use Rattle.sound.proofs.slots.limits_fault.Goals as goal
 

@@ -1,12 +1,10 @@
 -- `sound::slots::variables_unused` meets its contract. The loop's invariant: each variable slot passed, from v on, is undefined.
-use borrow.Author.Tests.{not-true, not-false}
 use mathlib.Core.Bool.{Bool}
 use mathlib.Core.List.{List}
-use mathlib.Core.Path.{sym, ◌∙◌}
 use Prim.Native.Nat.{ℕ, ◌≤◌, ◌-◌}
 use Rattle.table.specs.declared.VariableSlot.{VariableSlot}
 use Rattle.table.specs.Tables.{is_undefined, number_at}
-use Rattle.sound.specs.Slots.{Passed, passed_none, passed_more, every_slot_lem, slot_fails}
+use Rattle.sound.specs.Slots.{Passed}
 use Rattle.sound.proofs.slots.variables_unused.Given as goal
 
 abbrev pub unused : List VariableSlot → ℕ → Bool

@@ -1,5 +1,5 @@
 -- Where `addable` says so the difference fits 64 bits; elsewhere it is outside the range.
-use Rattle.values.proofs.Whole.{less_one_fits, difference_fits, difference_is, difference_outside}
+use Rattle.values.proofs.Whole.{difference_is}
 use Rattle.values.proofs.numbers.subtract.Goals as goal
 
 pub returns-then-addable : goal.returns-then-addable
