@@ -1,5 +1,5 @@
 -- A stream that comes in pieces: turn after turn, what is printed is what one whole input prints.
-use Rattle.std.specs.Prelude.{Bool, true, false, ◌⊎◌, ◌≡◌, refl, ℕ, ◌+◌, ◌-◌, ◌<◌, ◌≤◌, length, get_or, take, drop}
+use Rattle.std.specs.Prelude.{Bool, true, false, ◌⊎◌, ◌≡◌, refl, ℕ, ◌-◌, ◌<◌, ◌≤◌, length, get_or, take, drop}
 use mathlib.Core.List.{List, [], ◌∷◌, ◌++◌, append_assoc, append-nil, flatten}
 use Rattle.std.proofs.Common.{inl, inr, sym, ◌∙◌, ap, subst, subst₂, arith, length-append, length-drop}
 use Rattle.replies.specs.Plain.{never}

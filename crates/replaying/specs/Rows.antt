@@ -1,5 +1,5 @@
 -- The lines of a step by the words of its results, and that they are the lines of its reply.
-use Rattle.std.specs.Prelude.{true, cond, ◌≡◌, refl, ℕ, zero, suc, ◌+◌, ◌-◌, ◌<◌, eqb, get_or}
+use Rattle.std.specs.Prelude.{true, cond, ◌≡◌, refl, ℕ, zero, suc, ◌<◌, eqb, get_or}
 use mathlib.Core.List.{List, [], ◌∷◌, ◌++◌}
 use Rattle.std.proofs.Common.{sym, ◌∙◌, ap, ap₂, subst, arith}
 use borrow.Author.Tests.{eq-eqb, ne_eqb}

@@ -1,5 +1,4 @@
 -- `replaying::framing::record_at` meets its contract: by how many bytes are left, and the length that the first two make. A byte is below 256.
-use Prim.Native.Nat.{◌+◌}
 use native.Mathlib.Omega.{arith}
 use Rattle.replaying.specs.Framing.{framed_end, framed_byte, framed_cut, framed_whole}
 use Rattle.replaying.proofs.framing.record_at.Goals as goal

@@ -1,12 +1,9 @@
 -- `replaying::rows::printed_rows` meets its contract. The loop's invariant: the lines of the entries passed are laid; the measure is how many are left.
-use mathlib.Core.Path.{◌≡◌, refl}
 use Prim.Native.Nat.{◌-◌, ◌≤◌}
-use native.Mathlib.Omega.{arith}
 use lib.ListN.{get_or}
-use Rattle.lines.specs.Laying.{Lays, lays_length}
+use Rattle.lines.specs.Laying.{Lays}
 use Rattle.stream.specs.Replay.{row_lines}
 use Rattle.replaying.specs.Moving.{text_kept}
-use Rattle.replaying.specs.Printing.{lays_no_row, lays_next_result}
 use Rattle.replaying.specs.Rows.{printed}
 use Rattle.replaying.proofs.rows.printed_rows.Given as goal
 

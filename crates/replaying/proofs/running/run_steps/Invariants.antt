@@ -1,18 +1,11 @@
 -- `replaying::running::run_steps` meets its contract. The loop's invariant: the words are those of the monitor that the records so far have left; the measure is how many
-use mathlib.Core.Logic.{⊎_elim}
-use mathlib.Core.Path.{◌≡◌, refl, subst, sym, ap, ◌∙◌}
+-- bytes are left.
+use mathlib.Core.Path.{◌≡◌}
 use Prim.Native.Nat.{◌-◌}
-use native.Mathlib.Omega.{arith}
-use lib.ListN.{length, length-map}
-use Rattle.monitor.specs.declared.Monitor.{Monitor}
+use lib.ListN.{length}
 use Rattle.words.specs.Unpacking.{monitor_in}
-use Rattle.words.specs.Restored.{monitor_again}
-use Rattle.inplace.specs.Staying.{Standing}
-use Rattle.lines.specs.Laying.{lays_length}
-use Rattle.replaying.specs.declared.framing.Record.{Record}
-use Rattle.replaying.specs.Framing.{Framed}
-use Rattle.replaying.specs.Turning.{awaiting, awaiting_turned, framed_none}
-use Rattle.replaying.specs.Running.{Running, running_none, running_more, running_back, running_long, turned_by}
+use Rattle.replaying.specs.Turning.{awaiting}
+use Rattle.replaying.specs.Running.{Running}
 use Rattle.replaying.proofs.running.run_steps.Given as goal
 
 abbrev pub invariant-loop-out : goal.invariant-loop-out

@@ -1,7 +1,6 @@
 -- `replaying::texts::texts_of` meets its contract. The loop's invariant: the texts and sizes of the first k entries are there; the measure is how many are left.
-use Prim.Native.Nat.{◌-◌}
 use native.Mathlib.Omega.{arith}
-use Rattle.replaying.specs.Texts.{KeptTo, kept_none, kept_next, kept_all}
+use Rattle.replaying.specs.Texts.{kept_none, kept_all}
 use Rattle.replaying.proofs.texts.texts_of.Goals as goal
 
 pub returns : goal.returns

@@ -1,5 +1,4 @@
 -- `replaying::turning::follow` meets its contract: by the stage.
-use Rattle.lines.specs.Laying.{lays_length}
 use Rattle.replaying.specs.Turning.{stays_over}
 use Rattle.replaying.proofs.turning.follow.Goals as goal
 

@@ -1,7 +1,6 @@
 -- `replaying::turning::play` meets its contract: by the stage.
 use native.Mathlib.Omega.{arith}
 use borrow.Author.Rules.{rules}
-use Rattle.lines.specs.Laying.{lays_length}
 use Rattle.replaying.specs.Turning.{stays_over}
 use Rattle.replaying.proofs.turning.play.Goals as goal
 

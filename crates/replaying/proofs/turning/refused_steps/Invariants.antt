@@ -1,14 +1,7 @@
 -- `replaying::turning::refused_steps` meets its contract. The loop's invariant: whatever turn follows from here is one from the start; the measure is how many bytes are left.
-use mathlib.Core.Logic.{⊎_elim}
-use mathlib.Core.Path.{refl, subst}
 use lib.ListN.{length}
 use Prim.Native.Nat.{◌-◌}
-use native.Mathlib.Omega.{arith}
-use Rattle.lines.specs.Laying.{lays_length}
-use Rattle.replaying.specs.declared.framing.Record.{Record}
-use Rattle.replaying.specs.Framing.{Framed}
-use Rattle.replaying.specs.Turning.{Going, awaiting, awaiting_turned, framed_none, going_none}
-use Rattle.replaying.specs.Refusing.{going_refused}
+use Rattle.replaying.specs.Turning.{Going, awaiting}
 use Rattle.replaying.proofs.turning.refused_steps.Given as goal
 
 abbrev pub invariant-loop-out : goal.invariant-loop-out
