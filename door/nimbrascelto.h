@@ -1,6 +1,6 @@
 /* The rule checker for C: a monitor in a buffer of the caller's.
  *
- * Link target/staticlib/libdoor.a (`rt staticlib door`). There is no heap, no global variable and no call of the system: a function
+ * Link target/staticlib/libdoor.a (`door/build`). There is no heap, no global variable and no call of the system: a function
  * reads and writes the buffers that it is lent, and nothing else. So two monitors in two buffers may be stepped by two threads.
  *
  * A buffer is a pointer and the number of its elements. The pointer is never null, not even where the number is 0; a buffer that is

@@ -1,4 +1,4 @@
-//! Links libdoor.a: from the folder that NIMBRA_LIB names, or from target/staticlib, where `rt staticlib door` puts it.
+//! Links libdoor.a: from the folder that NIMBRA_LIB names, or from target/staticlib, where `door/build` puts it.
 
 use std::env;
 use std::path::PathBuf;
@@ -10,7 +10,7 @@ fn main() {
     let library = folder.join("libdoor.a");
     println!("cargo:rerun-if-changed={}", library.display());
     if !library.exists() {
-        println!("cargo:warning={} is missing: build it (rt staticlib door)", library.display());
+        println!("cargo:warning={} is missing: build it (door/build)", library.display());
     }
     println!("cargo:rustc-link-search=native={}", folder.display());
     println!("cargo:rustc-link-lib=static=door");
