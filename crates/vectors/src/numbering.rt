@@ -1,49 +1,50 @@
 // The number of each refusal.
 use crate::say;
 use refusals::Refusal;
+use std::io;
 
-fn one(r: Refusal) {
-    say(b" ");
-    io::print_decimal(1, refusals::number(r) as u64);
+fn one(rt: &impl Print, r: Refusal) -> io::Result<()> {
+    say(rt, b" ")?;
+    rt.print(refusals::number(r))
 }
 
-fn of_a_script() {
-    say(b"script:");
-    one(Refusal::TooLong);
-    one(Refusal::Cut);
-    one(Refusal::Format);
-    one(Refusal::EntryCount);
-    one(Refusal::ImportCount);
-    one(Refusal::VariableCount);
-    one(Refusal::HeaderBits);
-    one(Refusal::TableLimits);
-    one(Refusal::Initial);
-    one(Refusal::Kind);
-    one(Refusal::Operand);
-    one(Refusal::Sort);
-    one(Refusal::Padding);
-    one(Refusal::Label);
-    one(Refusal::LeftOver);
-    one(Refusal::NoRoom);
-    one(Refusal::Range);
-    say(b"\n");
+fn of_a_script(rt: &impl Print) -> io::Result<()> {
+    say(rt, b"script:")?;
+    one(rt, Refusal::TooLong)?;
+    one(rt, Refusal::Cut)?;
+    one(rt, Refusal::Format)?;
+    one(rt, Refusal::EntryCount)?;
+    one(rt, Refusal::ImportCount)?;
+    one(rt, Refusal::VariableCount)?;
+    one(rt, Refusal::HeaderBits)?;
+    one(rt, Refusal::TableLimits)?;
+    one(rt, Refusal::Initial)?;
+    one(rt, Refusal::Kind)?;
+    one(rt, Refusal::Operand)?;
+    one(rt, Refusal::Sort)?;
+    one(rt, Refusal::Padding)?;
+    one(rt, Refusal::Label)?;
+    one(rt, Refusal::LeftOver)?;
+    one(rt, Refusal::NoRoom)?;
+    one(rt, Refusal::Range)?;
+    say(rt, b"\n")
 }
 
-fn of_a_step() {
-    say(b"step:");
-    one(Refusal::StepCut);
-    one(Refusal::Time);
-    one(Refusal::StepImport);
-    one(Refusal::ImportOrder);
-    one(Refusal::ConditionReport);
-    one(Refusal::StepPadding);
-    one(Refusal::StepLeftOver);
-    one(Refusal::Unsound);
-    one(Refusal::NoEntry);
-    say(b"\n");
+fn of_a_step(rt: &impl Print) -> io::Result<()> {
+    say(rt, b"step:")?;
+    one(rt, Refusal::StepCut)?;
+    one(rt, Refusal::Time)?;
+    one(rt, Refusal::StepImport)?;
+    one(rt, Refusal::ImportOrder)?;
+    one(rt, Refusal::ConditionReport)?;
+    one(rt, Refusal::StepPadding)?;
+    one(rt, Refusal::StepLeftOver)?;
+    one(rt, Refusal::Unsound)?;
+    one(rt, Refusal::NoEntry)?;
+    say(rt, b"\n")
 }
 
-pub fn all() {
-    of_a_script();
-    of_a_step();
+pub fn all(rt: &impl Print) -> io::Result<()> {
+    of_a_script(rt)?;
+    of_a_step(rt)
 }

@@ -1,5 +1,6 @@
 // Sums, differences, less and equal at the ends of the number range and of 64 bits.
 use crate::{gives, say};
+use std::io;
 use values::{Number, Truth};
 
 // -2^47 and 2^47-1
@@ -11,115 +12,118 @@ const LEAST: i64 = -9223372036854775808;
 
 const MOST: i64 = 9223372036854775807;
 
-fn say_whole(z: i64) {
+fn say_whole(rt: &impl Print, z: i64) -> io::Result<()> {
     match z {
-        LEAST => say(b"-2^63"),
-        -140737488355329 => say(b"-2^47-1"),
-        LOW => say(b"-2^47"),
-        -1 => say(b"-1"),
-        0 => say(b"0"),
-        1 => say(b"1"),
-        3 => say(b"3"),
-        HIGH => say(b"2^47-1"),
-        140737488355328 => say(b"2^47"),
-        MOST => say(b"2^63-1"),
-        _ => say(b"another number"),
+        LEAST => say(rt, b"-2^63"),
+        -140737488355329 => say(rt, b"-2^47-1"),
+        LOW => say(rt, b"-2^47"),
+        -1 => say(rt, b"-1"),
+        0 => say(rt, b"0"),
+        1 => say(rt, b"1"),
+        3 => say(rt, b"3"),
+        HIGH => say(rt, b"2^47-1"),
+        140737488355328 => say(rt, b"2^47"),
+        MOST => say(rt, b"2^63-1"),
+        _ => say(rt, b"another number"),
     }
 }
 
-fn say_number(n: Number) {
+fn say_number(rt: &impl Print, n: Number) -> io::Result<()> {
     match n {
-        Number::Undefined => say(b"undefined"),
-        Number::Whole(z) => say_whole(z),
+        Number::Undefined => say(rt, b"undefined"),
+        Number::Whole(z) => say_whole(rt, z),
     }
 }
 
-fn sum(a: i64, b: i64) {
-    say_whole(a);
-    say(b" + ");
-    say_whole(b);
-    say(b": ");
-    say_number(Number::Whole(a).sum(Number::Whole(b)));
-    say(b"\n");
+fn sum(rt: &impl Print, a: i64, b: i64) -> io::Result<()> {
+    say_whole(rt, a)?;
+    say(rt, b" + ")?;
+    say_whole(rt, b)?;
+    say(rt, b": ")?;
+    say_number(rt, Number::Whole(a).sum(Number::Whole(b)))?;
+    say(rt, b"\n")
 }
 
-fn difference(a: i64, b: i64) {
-    say_whole(a);
-    say(b" - ");
-    say_whole(b);
-    say(b": ");
-    say_number(Number::Whole(a).difference(Number::Whole(b)));
-    say(b"\n");
+fn difference(rt: &impl Print, a: i64, b: i64) -> io::Result<()> {
+    say_whole(rt, a)?;
+    say(rt, b" - ")?;
+    say_whole(rt, b)?;
+    say(rt, b": ")?;
+    say_number(rt, Number::Whole(a).difference(Number::Whole(b)))?;
+    say(rt, b"\n")
 }
 
-fn compared(a: Number, b: Number) {
-    say_number(a);
-    say(b" less ");
-    say_number(b);
-    gives(a.less(b));
-    say_number(a);
-    say(b" equal ");
-    say_number(b);
-    gives(a.equal(b));
+fn compared(rt: &impl Print, a: Number, b: Number) -> io::Result<()> {
+    say_number(rt, a)?;
+    say(rt, b" less ")?;
+    say_number(rt, b)?;
+    gives(rt, a.less(b))?;
+    say_number(rt, a)?;
+    say(rt, b" equal ")?;
+    say_number(rt, b)?;
+    gives(rt, a.equal(b))
 }
 
-fn in_range(n: Number) {
-    say_number(n);
-    say(b" in range");
-    gives(if n.in_range() {
-        Truth::True
-    } else {
-        Truth::False
-    });
+fn in_range(rt: &impl Print, n: Number) -> io::Result<()> {
+    say_number(rt, n)?;
+    say(rt, b" in range")?;
+    gives(
+        rt,
+        if n.in_range() {
+            Truth::True
+        } else {
+            Truth::False
+        },
+    )
 }
 
-fn sums() {
-    sum(HIGH, 1);
-    sum(HIGH, 0);
-    sum(LOW, -1);
-    sum(LOW, HIGH);
-    sum(MOST, MOST);
-    sum(LEAST, LEAST);
-    sum(MOST, LEAST);
-    sum(LEAST, MOST);
+fn sums(rt: &impl Print) -> io::Result<()> {
+    sum(rt, HIGH, 1)?;
+    sum(rt, HIGH, 0)?;
+    sum(rt, LOW, -1)?;
+    sum(rt, LOW, HIGH)?;
+    sum(rt, MOST, MOST)?;
+    sum(rt, LEAST, LEAST)?;
+    sum(rt, MOST, LEAST)?;
+    sum(rt, LEAST, MOST)
 }
 
-fn differences() {
-    difference(LOW, 1);
-    difference(0, LOW);
-    difference(-1, LOW);
-    difference(0, HIGH + 1);
-    difference(HIGH, HIGH);
-    difference(MOST, LEAST);
-    difference(LEAST, MOST);
-    difference(LEAST, LEAST);
-    difference(MOST, MOST);
+fn differences(rt: &impl Print) -> io::Result<()> {
+    difference(rt, LOW, 1)?;
+    difference(rt, 0, LOW)?;
+    difference(rt, -1, LOW)?;
+    difference(rt, 0, HIGH + 1)?;
+    difference(rt, HIGH, HIGH)?;
+    difference(rt, MOST, LEAST)?;
+    difference(rt, LEAST, MOST)?;
+    difference(rt, LEAST, LEAST)?;
+    difference(rt, MOST, MOST)
 }
 
-fn comparisons() {
-    compared(Number::Undefined, Number::Whole(3));
-    compared(Number::Whole(3), Number::Undefined);
-    compared(Number::Undefined, Number::Undefined);
-    compared(Number::Whole(LOW), Number::Whole(HIGH));
-    compared(Number::Whole(HIGH), Number::Whole(LOW));
-    compared(Number::Whole(LOW), Number::Whole(LOW));
-    compared(Number::Whole(HIGH), Number::Whole(HIGH));
-    compared(Number::Whole(-1), Number::Whole(0));
+fn comparisons(rt: &impl Print) -> io::Result<()> {
+    compared(rt, Number::Undefined, Number::Whole(3))?;
+    compared(rt, Number::Whole(3), Number::Undefined)?;
+    compared(rt, Number::Undefined, Number::Undefined)?;
+    compared(rt, Number::Whole(LOW), Number::Whole(HIGH))?;
+    compared(rt, Number::Whole(HIGH), Number::Whole(LOW))?;
+    compared(rt, Number::Whole(LOW), Number::Whole(LOW))?;
+    compared(rt, Number::Whole(HIGH), Number::Whole(HIGH))?;
+    compared(rt, Number::Whole(-1), Number::Whole(0))
 }
 
-fn ranges() {
-    in_range(Number::Undefined);
-    in_range(Number::Whole(HIGH));
-    in_range(Number::Whole(HIGH + 1));
-    in_range(Number::Whole(LOW));
-    in_range(Number::Whole(LOW - 1));
-    in_range(Number::Whole(MOST));
-    in_range(Number::Whole(LEAST));
+fn ranges(rt: &impl Print) -> io::Result<()> {
+    in_range(rt, Number::Undefined)?;
+    in_range(rt, Number::Whole(HIGH))?;
+    in_range(rt, Number::Whole(HIGH + 1))?;
+    in_range(rt, Number::Whole(LOW))?;
+    in_range(rt, Number::Whole(LOW - 1))?;
+    in_range(rt, Number::Whole(MOST))?;
+    in_range(rt, Number::Whole(LEAST))
 }
 
-pub fn all() {
-    sums();
-    differences();
-    comparisons();
-    ranges();
+pub fn all(rt: &impl Print) -> io::Result<()> {
+    sums(rt)?;
+    differences(rt)?;
+    comparisons(rt)?;
+    ranges(rt)
 }
