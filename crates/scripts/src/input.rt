@@ -1,5 +1,23 @@
-// Numbers and parts of a case. Numbers have their most significant byte first; a part has its length, two bytes, before it.
-ghost use Rattle.std.specs.Prelude.{◌≤◌};
+// What is read of the input, and numbers and parts of a case. Numbers have their most significant byte first; a part has its length, two bytes, before it.
+ghost use Rattle.std.specs.Prelude.{◌≤◌, length, IfOk};
+
+use std::io;
+use std::io::Read;
+
+// Reads until the room is full or the input ends; how many bytes were put at the start of the room.
+pub(crate) fn read_full(input: &mut impl Read, room: &mut [u8]) -> io::Result<usize>
+    ensures { IfOk result (λ n. n ≤ length room.new) }
+{
+    let mut done: usize = 0;
+    while done < room.len() {
+        let n = input.read(&mut room[done..])?;
+        if n == 0 {
+            break;
+        }
+        done += n;
+    }
+    Ok(done)
+}
 
 // A byte, 0 past the end.
 pub(crate) fn byte(s: &[u8], i: usize) -> u8 {

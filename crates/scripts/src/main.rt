@@ -9,8 +9,9 @@ mod writing;
 
 ghost use Rattle.std.specs.Prelude.{◌≡◌, length};
 
-use crate::input::{after, byte, counted, part, word};
+use crate::input::{after, byte, counted, part, read_full, word};
 use crate::showing::say;
+use std::io;
 
 // Room for every case.
 fn room() -> [u8; 131072]
@@ -20,41 +21,42 @@ fn room() -> [u8; 131072]
 }
 
 // A case: a letter for what is asked, the name of the case, the script, and what the letter asks for besides.
-fn one(case: &[u8]) {
+fn one(rt: &impl Print, case: &[u8]) -> io::Result<()> {
     let asked = byte(case, 0);
     let rest = part(case, 1, case.len());
     let name = counted(rest);
     let rest = after(rest);
     let script = counted(rest);
     let rest = after(rest);
-    say(name);
-    say(b": ");
+    say(rt, name)?;
+    say(rt, b": ")?;
     match asked {
-        b'R' => reading::read(script),
-        b'L' => reading::label(script, rest),
-        b'W' => writing::write(script, rest),
-        _ => say(b"no such case"),
+        b'R' => reading::read(rt, script)?,
+        b'L' => reading::label(rt, script, rest)?,
+        b'W' => writing::write(rt, script, rest)?,
+        _ => say(rt, b"no such case")?,
     }
-    say(b"\n");
+    say(rt, b"\n")
 }
 
 // Each case has its length before it.
-fn all(cases: &[u8]) {
+fn all(rt: &impl Print, cases: &[u8]) -> io::Result<()> {
     let mut at: usize = 0;
     while at < cases.len() {
         let rest = &cases[at..];
         let size = word(rest, 0) as usize;
-        one(counted(rest));
+        one(rt, counted(rest))?;
         at = if size + 2 <= cases.len() - at {
             at + size + 2
         } else {
             cases.len()
         };
     }
+    Ok(())
 }
 
-fn main() {
+fn main(rt: HostRuntime) -> io::Result<()> {
     let mut space = room();
-    let n = io::read_full(0, &mut space);
-    all(&space[..n]);
+    let n = read_full(&mut rt.stdin(), &mut space)?;
+    all(&rt, &space[..n])
 }

@@ -1,12 +1,13 @@
 // Cases of reading: the table of a script, and the label of one of its entries.
 use crate::showing::{say, say_number, say_table};
 use crate::writing::{ROOM, rest_untouched};
+use std::io;
 use table::{Entry, Table};
 use values::Number;
 
-pub(crate) fn say_refused(number: u8) {
-    say(b"refused ");
-    io::print_decimal(1, number as u64);
+pub(crate) fn say_refused(rt: &impl Print, number: u8) -> io::Result<()> {
+    say(rt, b"refused ")?;
+    rt.print(number)
 }
 
 // "unused entry slots are the constant 0"
@@ -62,44 +63,46 @@ fn no_variables(t: Table) -> bool {
 }
 
 // "A refused script returns the empty table (counts 0, all slots unused)."
-fn say_emptiness(t: Table) {
+fn say_emptiness(rt: &impl Print, t: Table) -> io::Result<()> {
     if no_entries(t) && no_imports(t) && no_variables(t) {
-        say(b", table empty");
+        say(rt, b", table empty")
     } else {
-        say(b", table not empty");
+        say(rt, b", table not empty")
     }
 }
 
 // The block of a refused script: its number, and an empty part.
-fn say_no_block(s: &[u8], refused: u8) {
+fn say_no_block(rt: &impl Print, s: &[u8], refused: u8) -> io::Result<()> {
     let mut number: u8 = 0;
     let block = parts::block(s, &mut number);
     if number == refused && block.len() == 0 {
-        say(b", no block");
+        say(rt, b", no block")
     } else {
-        say(b", a block");
+        say(rt, b", a block")
     }
 }
 
 // The label of an entry, if it has one.
-fn say_label(s: &[u8], k: usize) {
+fn say_label(rt: &impl Print, s: &[u8], k: usize) -> io::Result<()> {
     let mut number: u8 = 0;
     let text = parts::label(s, k, &mut number);
     if number == 0 {
-        say(b" ");
-        say_number(k);
-        say(b":");
-        say(text);
+        say(rt, b" ")?;
+        say_number(rt, k)?;
+        say(rt, b":")?;
+        say(rt, text)?;
     }
+    Ok(())
 }
 
-fn say_labels(s: &[u8], n: usize) {
-    say(b" | labels");
+fn say_labels(rt: &impl Print, s: &[u8], n: usize) -> io::Result<()> {
+    say(rt, b" | labels")?;
     let mut k: usize = 0;
     while k < n {
-        say_label(s, k);
+        say_label(rt, s, k)?;
         k += 1;
     }
+    Ok(())
 }
 
 fn begins_with(d: &[u8], s: &[u8]) -> bool {
@@ -125,45 +128,44 @@ fn same(s: &[u8], t: Table, block: &[u8], dst: &mut [u8]) -> bool {
     begins_with(dst, s) && rest_untouched(dst, s.len())
 }
 
-fn say_same(s: &[u8], t: Table) {
+fn say_same(rt: &impl Print, s: &[u8], t: Table) -> io::Result<()> {
     let mut number: u8 = 0;
     let block = parts::block(s, &mut number);
     let mut space: [u8; ROOM] = [0xAA; ROOM];
     if same(s, t, block, &mut space) {
-        say(b" | same");
+        say(rt, b" | same")
     } else {
-        say(b" | differs");
+        say(rt, b" | differs")
     }
 }
 
-pub(crate) fn read(s: &[u8]) {
+pub(crate) fn read(rt: &impl Print, s: &[u8]) -> io::Result<()> {
     let script = reader::read(s);
     let answer = script.answer;
     let table = script.table;
     let number = parts::outcome(answer);
     if number != 0 {
-        say_refused(number);
-        say_emptiness(table);
-        say_no_block(s, number);
-        return;
+        say_refused(rt, number)?;
+        say_emptiness(rt, table)?;
+        return say_no_block(rt, s, number);
     }
-    say_table(table);
-    say_labels(s, table.n);
-    say_same(s, table);
+    say_table(rt, table)?;
+    say_labels(rt, s, table.n)?;
+    say_same(rt, s, table)
 }
 
-pub(crate) fn label(s: &[u8], rest: &[u8]) {
+pub(crate) fn label(rt: &impl Print, s: &[u8], rest: &[u8]) -> io::Result<()> {
     let k = crate::input::number(rest, 0) as usize;
     let mut number: u8 = 0;
     let text = parts::label(s, k, &mut number);
     if number != 0 {
-        say_refused(number);
+        say_refused(rt, number)?;
     } else {
-        say(b"label");
+        say(rt, b"label")?;
     }
-    say(b", ");
-    say_number(text.len());
-    say(b" bytes [");
-    say(text);
-    say(b"]");
+    say(rt, b", ")?;
+    say_number(rt, text.len())?;
+    say(rt, b" bytes [")?;
+    say(rt, text)?;
+    say(rt, b"]")
 }

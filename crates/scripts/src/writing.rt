@@ -3,6 +3,7 @@ use crate::editing::edited;
 use crate::input::{after, byte, counted, word};
 use crate::reading::say_refused;
 use crate::showing::{say, say_bytes, say_number};
+use std::io;
 use table::Table;
 
 // The longest destination.
@@ -32,38 +33,38 @@ fn sum(s: &[u8]) -> u64 {
 }
 
 // All bytes, or the sum of many.
-fn say_destination(d: &[u8]) {
+fn say_destination(rt: &impl Print, d: &[u8]) -> io::Result<()> {
     if d.len() <= 256 {
-        say(b":");
-        say_bytes(d);
+        say(rt, b":")?;
+        say_bytes(rt, d)
     } else {
-        say(b", sum ");
-        io::print_decimal(1, sum(d));
+        say(rt, b", sum ")?;
+        rt.print(sum(d))
     }
 }
 
-fn into(t: Table, block: &[u8], dst: &mut [u8]) {
+fn into(rt: &impl Print, t: Table, block: &[u8], dst: &mut [u8]) -> io::Result<()> {
     let written = writer::write(t, block, dst);
     let answer = written.answer;
     let size = written.size;
     let number = parts::outcome(answer);
     if number != 0 {
-        say_refused(number);
-        say(b", size ");
+        say_refused(rt, number)?;
+        say(rt, b", size ")?;
     } else {
-        say(b"written, size ");
+        say(rt, b"written, size ")?;
     }
-    say_number(size);
+    say_number(rt, size)?;
     if rest_untouched(dst, size) {
-        say(b", rest untouched");
+        say(rt, b", rest untouched")?;
     } else {
-        say(b", rest changed");
+        say(rt, b", rest changed")?;
     }
-    say_destination(dst);
+    say_destination(rt, dst)
 }
 
 // The table of a script with edits, a block and the length of the destination. A refused script stands for the empty table.
-pub(crate) fn write(s: &[u8], rest: &[u8]) {
+pub(crate) fn write(rt: &impl Print, s: &[u8], rest: &[u8]) -> io::Result<()> {
     let edits = counted(rest);
     let rest = after(rest);
     let block = counted(rest);
@@ -74,8 +75,8 @@ pub(crate) fn write(s: &[u8], rest: &[u8]) {
     let t = edited(table, edits);
     let mut space: [u8; ROOM] = [0xAA; ROOM];
     if length <= ROOM {
-        into(t, block, &mut space[0..length]);
+        into(rt, t, block, &mut space[0..length])
     } else {
-        say(b"no such destination");
+        say(rt, b"no such destination")
     }
 }

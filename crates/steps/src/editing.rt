@@ -2,6 +2,7 @@
 use crate::input::{letter, number};
 use crate::showing::say;
 use monitor::Monitor;
+use std::io;
 use table::{Entry, EntrySlot, Table, VariableSlot};
 use values::Number;
 
@@ -77,13 +78,13 @@ fn edit(m: Monitor, e: &[u8]) -> Monitor {
 }
 
 // The monitor with every edit of a list.
-pub(crate) fn edited(m: Monitor, edits: &[u8]) -> Monitor {
+pub(crate) fn edited(rt: &impl Print, m: Monitor, edits: &[u8]) -> io::Result<Monitor> {
     let mut monitor = m;
     let mut at: usize = 0;
     while at + 8 <= edits.len() {
         monitor = edit(monitor, &edits[at..at + 8]);
         at += 8;
     }
-    say(b"edited");
-    monitor
+    say(rt, b"edited")?;
+    Ok(monitor)
 }

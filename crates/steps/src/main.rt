@@ -9,9 +9,10 @@ mod showing;
 
 ghost use Rattle.std.specs.Prelude.{◌≡◌, length};
 
-use crate::input::{after, counted, letter, part, size};
+use crate::input::{after, counted, letter, part, read_full, size};
 use crate::showing::say;
 use monitor::Monitor;
+use std::io;
 use table::Table;
 
 // Room for every case.
@@ -22,34 +23,34 @@ fn room() -> [u8; 131072]
 }
 
 // The monitor after what the letter asks for: a script read, a start again, a step, a step that is only tried, or edits.
-fn asked(what: u8, m: Monitor, rest: &[u8]) -> Monitor {
+fn asked(rt: &impl Print, what: u8, m: Monitor, rest: &[u8]) -> io::Result<Monitor> {
     match what {
-        b'R' => running::read(rest),
-        b'A' => running::again(m),
-        b'S' => running::step(m, rest),
-        b'T' => running::tried(m, rest),
-        _ => editing::edited(m, rest),
+        b'R' => running::read(rt, rest),
+        b'A' => running::again(rt, m),
+        b'S' => running::step(rt, m, rest),
+        b'T' => running::tried(rt, m, rest),
+        _ => editing::edited(rt, m, rest),
     }
 }
 
 // A case: a letter for what is asked, the name of the case, and the bytes that the letter asks for.
-fn one(m: Monitor, case: &[u8]) -> Monitor {
+fn one(rt: &impl Print, m: Monitor, case: &[u8]) -> io::Result<Monitor> {
     let rest = part(case, 1, case.len());
-    say(counted(rest));
-    say(b": ");
-    let next = asked(letter(case), m, after(rest));
-    say(b"\n");
-    next
+    say(rt, counted(rest))?;
+    say(rt, b": ")?;
+    let next = asked(rt, letter(case), m, after(rest))?;
+    say(rt, b"\n")?;
+    Ok(next)
 }
 
 // Each case has its length before it, and begins with the monitor that the case before it left.
-fn all(cases: &[u8]) {
+fn all(rt: &impl Print, cases: &[u8]) -> io::Result<()> {
     let first = monitor::start(Table::empty());
     let mut m = first.monitor;
     let mut at: usize = 0;
     while at < cases.len() {
         let rest = &cases[at..];
-        m = one(m, counted(rest));
+        m = one(rt, m, counted(rest))?;
         let next = at + 2 + size(rest);
         at = if next < cases.len() {
             next
@@ -57,10 +58,11 @@ fn all(cases: &[u8]) {
             cases.len()
         };
     }
+    Ok(())
 }
 
-fn main() {
+fn main(rt: HostRuntime) -> io::Result<()> {
     let mut space = room();
-    let n = io::read_full(0, &mut space);
-    all(&space[..n]);
+    let n = read_full(&mut rt.stdin(), &mut space)?;
+    all(&rt, &space[..n])
 }

@@ -2,75 +2,72 @@
 ghost use Rattle.std.specs.Prelude.{◌≤◌};
 
 use monitor::Stepped;
+use std::io;
 use table::Table;
 use values::{Number, Outcome, Truth};
 
-pub(crate) fn say(words: &[u8]) {
-    io::write_all(1, words);
+pub(crate) fn say(rt: &impl Print, words: &[u8]) -> io::Result<()> {
+    rt.write_all(words)
 }
 
-pub(crate) fn say_number(n: u64) {
-    io::print_decimal(1, n);
+pub(crate) fn say_number(rt: &impl Print, n: u64) -> io::Result<()> {
+    rt.print(n)
 }
 
 // A whole number; a negative one is its two's complement less 2^48.
-fn say_whole(z: i64) {
+fn say_whole(rt: &impl Print, z: i64) -> io::Result<()> {
     let v = bits::unsigned(z);
     if 0 <= z {
-        say_number(v);
-        return;
+        return say_number(rt, v);
     }
     if v <= 281474976710656 {
-        say(b"-");
-        say_number(281474976710656 - v);
+        say(rt, b"-")?;
+        say_number(rt, 281474976710656 - v)?;
     }
+    Ok(())
 }
 
 // The word for what is so, and the word for what is not.
-pub(crate) fn say_either(b: bool, yes: &[u8], no: &[u8]) {
-    if b {
-        say(yes);
-    } else {
-        say(no);
-    }
+pub(crate) fn say_either(rt: &impl Print, b: bool, yes: &[u8], no: &[u8]) -> io::Result<()> {
+    if b { say(rt, yes) } else { say(rt, no) }
 }
 
 // "A condition is true, false or undefined."
-fn say_truth(t: Truth) {
+fn say_truth(rt: &impl Print, t: Truth) -> io::Result<()> {
     match t {
-        Truth::Undefined => say(b"undefined"),
-        Truth::False => say(b"false"),
-        Truth::True => say(b"true"),
+        Truth::Undefined => say(rt, b"undefined"),
+        Truth::False => say(rt, b"false"),
+        Truth::True => say(rt, b"true"),
     }
 }
 
 // "A property is violated where its condition is false; undefined is reported as not known."
-fn say_property(t: Truth) {
+fn say_property(rt: &impl Print, t: Truth) -> io::Result<()> {
     match t {
-        Truth::Undefined => say(b"not-known"),
-        Truth::False => say(b"violated"),
-        Truth::True => say(b"not-violated"),
+        Truth::Undefined => say(rt, b"not-known"),
+        Truth::False => say(rt, b"violated"),
+        Truth::True => say(rt, b"not-violated"),
     }
 }
 
 // "A number is undefined or a whole number"
-fn say_numeric(n: Number) {
+fn say_numeric(rt: &impl Print, n: Number) -> io::Result<()> {
     match n {
-        Number::Undefined => say(b"undefined_number"),
-        Number::Whole(z) => say_whole(z),
+        Number::Undefined => say(rt, b"undefined-number"),
+        Number::Whole(z) => say_whole(rt, z),
     }
 }
 
 // A result in one word: document 01's, but "-" for an event that does not occur.
-fn say_outcome(o: Outcome) {
+fn say_outcome(rt: &impl Print, o: Outcome) -> io::Result<()> {
     match o {
-        Outcome::Nothing => say(b"no-result"),
-        Outcome::Condition(c) => say_truth(c),
-        Outcome::Event(b) => say_either(b, b"occurs", b"-"),
-        Outcome::Numeric(x) => say_numeric(x),
-        Outcome::Done(b) => say_either(b, b"done", b"not-done"),
-        Outcome::Raised(b) => say_either(b, b"raised", b"not-raised"),
-        Outcome::Property(c) => say_property(c),
+        Outcome::Nothing => say(rt, b"no-result"),
+        Outcome::Condition(c) => say_truth(rt, c),
+        Outcome::Event(b) => say_either(rt, b, b"occurs", b"-"),
+        Outcome::Numeric(x) => say_numeric(rt, x),
+        Outcome::Done(b) => say_either(rt, b, b"done", b"not-done"),
+        Outcome::Raised(b) => say_either(rt, b, b"raised", b"not-raised"),
+        Outcome::Property(c) => say_property(rt, c),
     }
 }
 
@@ -90,21 +87,22 @@ fn nothing(o: Outcome) -> usize
 }
 
 // The results of the first n slots.
-pub(crate) fn say_results(r: Stepped, n: usize) {
+pub(crate) fn say_results(rt: &impl Print, r: Stepped, n: usize) -> io::Result<()> {
     let mut k: usize = 0;
     while k < Table::ENTRIES {
         let slot = r.results[k];
         let outcome = slot.outcome;
         if k < n {
-            say(b" ");
-            say_outcome(outcome);
+            say(rt, b" ")?;
+            say_outcome(rt, outcome)?;
         }
         k += 1;
     }
+    Ok(())
 }
 
 // How many of the slots from n on hold "no result".
-pub(crate) fn say_nothings(r: Stepped, n: usize) {
+pub(crate) fn say_nothings(rt: &impl Print, r: Stepped, n: usize) -> io::Result<()> {
     let mut count: usize = 0;
     let mut k = n;
     while k < Table::ENTRIES {
@@ -113,7 +111,7 @@ pub(crate) fn say_nothings(r: Stepped, n: usize) {
         count += nothing(outcome);
         k += 1;
     }
-    say(b" | ");
-    say_number(count as u64);
-    say(b" no result");
+    say(rt, b" | ")?;
+    say_number(rt, count as u64)?;
+    say(rt, b" no result")
 }
