@@ -1,5 +1,5 @@
 -- What a read leaves in the input: the bytes that were kept, and a piece of the stream after them.
-use Rattle.std.specs.Prelude.{Bool, true, false, List, [], ◌++◌, ◌≡◌, refl, ℕ, ◌+◌, ◌-◌, ◌≤◌, length, take, drop}
+use Rattle.std.specs.Prelude.{Bool, true, false, None, List, [], ◌++◌, ◌≡◌, refl, ℕ, ◌+◌, ◌-◌, ◌≤◌, length, take, drop}
 use Rattle.std.proofs.Common.{append-nil, sym, ◌∙◌, ap, zero-add, arith, length-append, length-drop, length-take-le, take-add, drop_at}
 use Rattle.std.proofs.Math.Seq.{paste, take-append-add}
 use Rattle.std.proofs.lemmas.List.Edits.{take-paste, length-paste}
@@ -18,7 +18,7 @@ pub record Refilled (was : List ℕ) (taken have : ℕ) (ended : Bool) (is : Lis
   pub ends : h.ended ≡ true → piece ≡ []
 
 -- nothing is read
-pub refilled_none : (was : List ℕ) (have : ℕ) {ended over : Bool} {h : Held} → have ≤ length was → ended ≡ over → h ≡ record { have = have; ended = over; failed = false }
+pub refilled_none : (was : List ℕ) (have : ℕ) {ended over : Bool} {h : Held} → have ≤ length was → ended ≡ over → h ≡ record { have = have; ended = over; failed = None }
     → Refilled was 0 have ended was h
 refilled_none was have room same e =
     let count = ap (λ (x : Held). x.have) e in
@@ -72,3 +72,10 @@ refilled_kept {was} {kept} {taken = taken} {have = have} {count = count} fewer r
       still = f.still;
       ends = f.ends;
     }
+
+-- the piece is what stands after the bytes that were kept
+pub refilled_piece : {was is : List ℕ} {taken have : ℕ} {ended : Bool} {h : Held} (kept : ℕ) (f : Refilled was taken have ended is h) → kept ≡ have - taken → taken ≤ have
+    → have ≤ length was → drop kept (take h.have is) ≡ f.piece
+refilled_piece {was} {taken = taken} {have = have} kept f same fewer room =
+    let front = drop taken (take have was) in
+    ap (drop kept) f.bytes ∙ drop_at front f.piece kept (omega (arith, length-drop taken (take have was), length-take-le have was room))
