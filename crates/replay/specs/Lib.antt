@@ -2,3 +2,4 @@
 pub mod Keeping
 pub mod Refilling
 pub mod Running
+pub mod Playing

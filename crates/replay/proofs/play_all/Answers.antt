@@ -1,0 +1,41 @@
+-- `replay::play_all` meets its contract: where it returns because all lines are printed, the writer got what document 01 says of the bytes that the reader had.
+use Rattle.std.proofs.Common.{refl, sym, ◌-◌, ◌∙◌, subst, arith, length-take-le}
+use Rattle.std.specs.Io.KnownBytes.{Consumes}
+use Rattle.lines.specs.Laying.{lays_length}
+use Rattle.replaying.specs.Pieces.{over_stage}
+use Rattle.replay.specs.Refilling.{refilled_piece}
+use Rattle.replay.specs.Playing.{playing_none, playing_turn, playing_read, playing_over}
+use Rattle.replay.proofs.play_all.Goals as goal
+
+-- nothing is read or printed yet
+pub loop-turns-init : goal.loop-turns-init
+loop-turns-init g c =
+    record {
+      input-long = sym c.input_room-input.ensures;
+      out-long = sym c.output_room-out.ensures;
+      within = omega arith;
+      playing = playing_none c.new_player-player.ensures;
+    }
+
+-- all lines are printed
+pub returns-then-t : goal.returns-then-t
+returns-then-t g c =
+    let turned = c.play-t.ensures in
+    playing_over (playing_turn c.loop-turns.invariant.playing turned c.in_default.ensures.bytes) (over_stage _ (sym turned.done ∙ c.if-t.true))
+
+-- a turn, and then a read
+pub loop-turns-preserved : goal.loop-turns-preserved
+loop-turns-preserved g c =
+    let going = c.loop-turns.invariant in
+    let turned = c.play-t.ensures in
+    let refilled = c.refill-held.ensures.held in
+    let held = length-take-le c.loop-turns.have c.loop-turns.input (omega (arith, going.input-long, going.within)) in
+    let piece = refilled_piece (c.loop-turns.have - c.play-t.result.taken) refilled refl (omega (arith, turned.within, held)) (omega (arith, going.input-long, going.within)) in
+    record {
+      input-long = refilled.long ∙ going.input-long;
+      out-long = lays_length turned.lays ∙ going.out-long;
+      within = omega (arith, refilled.within, going.input-long);
+      playing =
+          playing_read refilled.piece (playing_turn going.playing turned c.in_default.ensures.bytes) refilled.bytes refilled.still
+          (subst (Consumes _ _) piece c.refill-held.ensures.bytes) c.refill-held.ensures.end;
+    }
