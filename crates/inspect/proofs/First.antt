@@ -1,8 +1,8 @@
 -- The first 4,097 bytes of an input show what all of it shows: a script of more than 4,096 is refused for its length.
-use Rattle.std.specs.Prelude.{Option, None, Some, IfSome, List, [], ◌++◌, ◌≡◌, refl, ℕ, ◌<◌, ◌≤◌, length, take}
-use Rattle.std.proofs.Common.{sym, ◌∙◌, ap, append-nil, arith, inl, inr, lt-ltb, length-append, length-take-le}
+use Rattle.std.specs.Prelude.{Option, None, Some, IfSome, List, ◌++◌, ◌≡◌, refl, ℕ, ◌<◌, ◌≤◌, length, take}
+use Rattle.std.proofs.Common.{sym, ◌∙◌, ap, append-nil, arith, lt-ltb, length-append, length-take-le}
 use Rattle.std.proofs.Math.Decide.{dec_lt}
-use Rattle.std.specs.Io.KnownBytes.{Appends, Consumes, IsAtEnd}
+use Rattle.std.specs.Io.KnownBytes.{Consumes, IsAtEnd}
 use Rattle.refusals.specs.declared.Refusal.{Refusal}
 use Rattle.script.specs.Reader.{script_of}
 use Rattle.lines.specs.Text.{script_refused_line}

@@ -1,6 +1,6 @@
 -- `inspect::show` meets its contract: the writer gets all that is shown of what was read, and that is what is shown of all that the reader had.
 use Rattle.std.specs.Prelude.{Option, None, Some, Result, Ok, Err, IfSome, OnOk, List, ◌≡◌, ℕ}
-use Rattle.std.proofs.Common.{subst, sym, ◌∙◌, arith}
+use Rattle.std.proofs.Common.{subst, ◌∙◌, arith}
 use Rattle.std.specs.Io.KnownBytes.{Appends}
 use Rattle.inspection.specs.Inspected.{inspected}
 use Rattle.inspection.specs.Bounds.{shown_whole}
