@@ -10,7 +10,7 @@ use Rattle.replaying.specs.declared.Stage.{Stage}
 use Rattle.replaying.specs.declared.Player.{Player}
 use Rattle.replaying.specs.declared.Turn.{Turn}
 use Rattle.replaying.specs.Moving.{new_player, Turned}
-use Rattle.replaying.specs.Pieces.{Run, stops, over_stage}
+use Rattle.replaying.specs.Pieces.{Run, stops}
 use Rattle.replaying.specs.Whole.{run_replayed}
 use Rattle.replay.specs.Running.{Running, running_none, running_turn, running_read, read_on}
 
