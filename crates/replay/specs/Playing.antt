@@ -22,12 +22,12 @@ pub record Playing (given left had has : Option (List ℕ)) (p : Player) (held :
   pub all : ended ≡ true → IfSome given (λ stream. flatten running.read ≡ stream)
 
 -- nothing is read or printed yet
-pub playing_none : {given had : Option (List ℕ)} {p : Player} → p ≡ new_player → Playing given given had had p [] false
+unfoldable pub playing_none : {given had : Option (List ℕ)} {p : Player} → p ≡ new_player → Playing given given had had p [] false
 unfolding flatten
 playing_none {given} {had} e = record { running = running_none e; taken = Consumes-nil given; put = Appends-nil had; all = λ over. never over }
 
 -- the lines of a turn are written
-pub playing_turn : {given left had was has : Option (List ℕ)} {p : Player} {held out after : List ℕ} {ended : Bool} {r : Turn} → Playing given left had was p held ended
+unfoldable pub playing_turn : {given left had was has : Option (List ℕ)} {p : Player} {held out after : List ℕ} {ended : Bool} {r : Turn} → Playing given left had was p held ended
     → Turned p ended held 0 out 0 after r → Appends was has (take r.filled after) → Playing given left had has r.player (drop r.taken held) ended
 playing_turn {had = had} {was} {has} playing turn written =
     record {
@@ -38,25 +38,25 @@ playing_turn {had = had} {was} {has} playing turn written =
     }
 
 -- the bytes of pieces and of a last one
-flatten_last : (pieces : List (List ℕ)) (last : List ℕ) → flatten pieces ++ last ≡ flatten (pieces ++ (last ∷ []))
+pub flatten_last : (pieces : List (List ℕ)) (last : List ℕ) → flatten pieces ++ last ≡ flatten (pieces ++ (last ∷ []))
 unfolding flatten
 flatten_last [] last = sym (append-nil last)
 flatten_last (piece ∷ pieces) last = append_assoc piece (flatten pieces) last ∙ ap (λ (l : List ℕ). piece ++ l) (flatten_last pieces last)
 
 -- those of the pieces with one more; after the end of the input nothing is read
-read_bytes : (was : Bool) (read : List (List ℕ)) (piece : List ℕ) → (was ≡ true → piece ≡ []) → flatten read ++ piece ≡ flatten (read_on was read piece)
+pub read_bytes : (was : Bool) (read : List (List ℕ)) (piece : List ℕ) → (was ≡ true → piece ≡ []) → flatten read ++ piece ≡ flatten (read_on was read piece)
 read_bytes true read piece still = ap (λ (l : List ℕ). flatten read ++ l) (still refl) ∙ append-nil (flatten read)
 read_bytes false read piece still = flatten_last read piece
 
 -- after the end of the input they are all
-read_all : (given rest : Option (List ℕ)) (was : Bool) (read : List (List ℕ)) (piece : List ℕ) → (was ≡ true → IfSome given (λ stream. flatten read ≡ stream))
+pub read_all : (given rest : Option (List ℕ)) (was : Bool) (read : List (List ℕ)) (piece : List ℕ) → (was ≡ true → IfSome given (λ stream. flatten read ≡ stream))
     → Consumes given rest (flatten (read_on was read piece)) → IsTrue was ⊎ IsAtEnd rest → IfSome given (λ stream. flatten (read_on was read piece) ≡ stream)
 read_all given rest true read piece all taken end = all refl
 read_all given rest false read piece all taken (inl over) = never over
 read_all given rest false read piece all taken (inr none) = Consumes-all given rest (flatten (read ++ (piece ∷ []))) [] _ taken none refl
 
 -- a piece is read
-pub playing_read : {given left rest had has : Option (List ℕ)} {p : Player} {held after : List ℕ} {was ended : Bool} (piece : List ℕ) → Playing given left had has p held was
+unfoldable pub playing_read : {given left rest had has : Option (List ℕ)} {p : Player} {held after : List ℕ} {was ended : Bool} (piece : List ℕ) → Playing given left had has p held was
     → after ≡ held ++ piece → (was ≡ true → (piece ≡ []) × (ended ≡ true)) → Consumes left rest piece → (IsTrue ended → IsTrue was ⊎ IsAtEnd rest)
     → Playing given rest had has p after ended
 playing_read {given} {left} {rest} {was = was} {ended = ended} piece playing e still read end =

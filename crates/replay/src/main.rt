@@ -8,7 +8,7 @@ ghost use Rattle.std.specs.Io.KnownBytes.{Appends};
 ghost use Rattle.stream.specs.Replay.{replayed};
 
 use source::{opened, refill};
-use std::io::{Error, ErrorKind, Read, Write};
+use std::io::{Error, Read, Write};
 use std::process::ExitCode;
 
 // Room for the longest record, and for as much again, so that a stream is read in large pieces.
@@ -30,6 +30,7 @@ fn output_room() -> [u8; 65536]
 enum Failure {
     Read(Error),
     Write(Error),
+    Turns,
 }
 
 // Piece after piece: what is there is played, its lines are written, what is left is kept, and more is read.
@@ -61,7 +62,7 @@ fn play_all<R: Read, W: Write>(source: &mut R, output: &mut W) -> Result<(), Fai
         player = t.player;
         turns -= 1;
     }
-    Err(Failure::Read(Error::from(ErrorKind::TimedOut)))
+    Err(Failure::Turns)
 }
 
 fn main(rt: HostRuntime) -> ExitCode {
@@ -74,6 +75,7 @@ fn main(rt: HostRuntime) -> ExitCode {
     let _ = match failure {
         Failure::Read(e) => eprintln!(rt; "replay: read: {e}"),
         Failure::Write(e) => eprintln!(rt; "replay: write: {e}"),
+        Failure::Turns => return ExitCode::SUCCESS,
     };
     ExitCode::FAILURE
 }
