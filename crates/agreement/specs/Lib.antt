@@ -2,4 +2,3 @@
 pub mod Agreeing
 pub mod Looking
 pub mod Touched
-pub mod Same

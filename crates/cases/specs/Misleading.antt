@@ -21,7 +21,7 @@ use Rattle.reach.specs.Reaching.{Entries, is_operand, is_read, reads_update, lea
 use Rattle.cases.specs.Gate.{second_closing}
 
 -- a judge says something else than document 01 at a case
-abbrev Differs : Judge → Case → Type 0
+abbrev pub Differs : Judge → Case → Type 0
 Differs by c = answer_by by c ≡ c.says → ⊥
 
 -- 1. "Taking undefined for false."
@@ -61,19 +61,9 @@ undefined_for_false t past s row k =
     (meaning (entry_at t k) (row_at row places.first) (row_at row places.second) (flat_givens (condition_before past places.first) (givens_at t past s row k)))
 
 -- "It makes P3 true, gives P9 an end and takes away the end in P8."
-undefined_for_false_lem : map (answer_by undefined_for_false) (p3 ∷ p9end ∷ p8 ∷ []) ≡ true-condition ∷ occurs ∷ does-not-occur ∷ []
+pub undefined_for_false_lem : map (answer_by undefined_for_false) (p3 ∷ p9end ∷ p8 ∷ []) ≡ true-condition ∷ occurs ∷ does-not-occur ∷ []
 unfolding answer_by said undefined_for_false the_logic
 undefined_for_false_lem = refl
-
--- so it differs at P3, P8 and P9
-pub reading_1_differs : Differs undefined_for_false p3 × (Differs undefined_for_false p8 × Differs undefined_for_false p9end)
-reading_1_differs = (
-  (λ e. let z : ◌≡◌ {A = ℕ} 0 1 = cc undefined_for_false_lem in omega arith),
-  (
-    (λ e. let z : ◌≡◌ {A = ℕ} 0 1 = cc undefined_for_false_lem in omega arith),
-    λ e. let z : ◌≡◌ {A = ℕ} 0 1 = cc undefined_for_false_lem in omega arith,
-  ),
-)
 
 -- 2. "Trusting document 003's remark that a condition equals the pair of its own start and end."
 abbrev own_pair : Table
@@ -117,41 +107,29 @@ updates_last t past s row k =
     meaning (entry_at t k) (row_at row places.first) (row_at row places.second) (late_givens (held_before t past places.variable) (givens_at t past s row k))
 
 -- "Document 003's gate rule, whose update would then come too late, is right only if the update stands first and the rule sees it."
-gate_rule : (answer_by judge second_closing ≡ not-violated) × (answer_by updates_last second_closing ≡ violated)
+pub gate_rule : (answer_by judge second_closing ≡ not-violated) × (answer_by updates_last second_closing ≡ violated)
 unfolding answer_by said updates_last the_logic
 gate_rule = (refl, refl)
-
--- so it differs at the second closing of the gate
-pub reading_3_differs : Differs updates_last second_closing
-reading_3_differs e = let z : ◌≡◌ {A = ℕ} 0 1 = cc gate_rule.1 in omega arith
 
 -- 4. "Following only the updates that stand before a read when working out reach."
 pub earlier_only : Table → ℕ → ℕ → Bool
 earlier_only t j o = is_operand (operands_of (entry_at t j)) o || (ltb o j && reads_update (operands_of (entry_at t j)) (update_of (entry_at t o)))
 
 -- the read by itself
-abbrev read_alone : Entries
+abbrev pub read_alone : Entries
 read_alone j = eqb j 0
 
 -- no entry stands before the first
-none_before : (o : ℕ) (b : Bool) → T (ltb o 0 && b) → ⊥
+pub none_before : (o : ℕ) (b : Bool) → T (ltb o 0 && b) → ⊥
 none_before o b before = rw (leb-suc-zero o) at before
 
-read_alone_closed : Closed (earlier_only read_then_update) 4 read_alone
+pub read_alone_closed : Closed (earlier_only read_then_update) 4 read_alone
 unfolding earlier_only is_operand entry_at operands_of update_of
 read_alone_closed zero o hj ho inside leads = absurd (none_before o _ leads)
 read_alone_closed (suc j) o hj ho inside leads = absurd (rw (eqb-suc-zero j) at inside)
 
--- under this reading the reach of the read is the read alone, and leaves the update out
-pub wrong_least : Least (earlier_only read_then_update) 4 0 read_alone
-wrong_least = record { holds = tt; closed = read_alone_closed; least = only }
-  where
-    only : (other : Entries) → T (other 0) → Closed (earlier_only read_then_update) 4 other → (j : ℕ) → j < 4 → T (read_alone j) → T (other j)
-    only other holds closed zero h inside = holds
-    only other holds closed (suc j) h inside = absurd (rw (eqb-suc-zero j) at inside)
-
 -- all four entries of P12's table
-abbrev all_four : Entries
+abbrev pub all_four : Entries
 all_four j = ltb j 4
 
 -- by document 01's rule the reach of the read is all four: the update, its event and its number
@@ -168,7 +146,3 @@ right_least = record { holds = tt; closed = λ j o hj ho inside leads. lt→ltb 
       where
         not_below : suc (suc (suc (suc j))) < 4 → ⊥
         not_below below = omega arith
-
--- "A later update is seen one step on": P12's update, entry 3, is in every reach of P12's read by the one rule, in none by the other
-pub reading_4_differs : (S R : Entries) → Least (leads_to read_then_update) 4 0 S → Least (earlier_only read_then_update) 4 0 R → T (S 3) × (T (R 3) → ⊥)
-reading_4_differs S R right wrong = (right_least.least S right.holds right.closed 3 (lit< tt) tt, λ marked. wrong.least read_alone tt read_alone_closed 3 (lit< tt) marked)

@@ -1,7 +1,7 @@
 -- Every reply that our functions' own contracts allow is the build's, so the demands that are proved of the build hold of the code.
 use Rattle.replies.specs.Replies.{Answers}
 use Rattle.reach.specs.Spreading.{reach_of}
-use Rattle.reach.specs.Shown.{reply_is}
+use Rattle.reach.proofs.Shown.{reply_is}
 use Rattle.demands.specs.Scripts.{ours}
 use Rattle.demands.specs.Monitors.{our_machine}
 use Rattle.reader.proofs.read.Reads as read

@@ -1,7 +1,7 @@
 -- Lazy and misled reaches, and the statement that stops each: every reach with the fault named is stopped, not one example of it.
 use Rattle.std.specs.Prelude.{Bool, true, false, ◌&&◌, List, [], ◌∷◌, ◌≡◌, refl, ℕ, zero, suc, ◌<◌, T, eqb, pos, get_or}
 use Rattle.std.proofs.Math.Bool.{and-false}
-use Rattle.std.proofs.Common.{sym, ◌∙◌, subst, arith, lit<}
+use Rattle.std.proofs.Common.{sym, ◌∙◌, subst, arith, lit<, lt-ltb}
 use Rattle.std.proofs.Math.Dec.{eqb-suc-zero}
 use Rattle.values.specs.declared.Number.{Number}
 use Rattle.values.specs.declared.Outcome.{Outcome}
@@ -14,17 +14,24 @@ use Rattle.table.specs.declared.Table.{Table}
 use Rattle.table.specs.Kinds.{kind_of, operands_of, update_of}
 use Rattle.table.specs.Tables.{entry_at}
 use Rattle.table.specs.Below.{some_below, some_found, some_here, both_parts, both_joined}
-use Rattle.table.specs.Faults.{table_fault, the_faults}
+use Rattle.table.specs.Faults.{table_fault, unsound_table, the_faults}
 use Rattle.step.specs.Steps.{Step}
 use Rattle.step.specs.Reader.{the_step}
 use Rattle.history.specs.History.{the_logic}
 use Rattle.history.specs.Offered.{offered, history_of}
 use Rattle.history.specs.Marked.{rules, start_and_end, read_then_update}
-use Rattle.reach.specs.Reaching.{Entries, is_operand, is_read, leads_to, Closed, Least, names_import, reaches_import, reaches_clock, reads_clock, marked_in}
+use Rattle.reach.specs.Reaching.{reach_fault, ReachReply, Shows, Entries, is_operand, is_read, leads_to, Closed, Least, names_import, reaches_import, reaches_clock, reads_clock, marked_in}
 use Rattle.agreement.specs.Agreeing.{touching_in, StepsAgree, results_of_rule}
-use Rattle.cases.specs.Misleading.{earlier_only, wrong_least, reading_4_differs}
+use Rattle.cases.specs.Misleading.{earlier_only}
+use Rattle.cases.proofs.Differing.{wrong_least, reading_4_differs}
 use Rattle.demands.specs.Reaches.{Reacher, ShowsTheLeast, SameInTheLogic}
-use Rattle.demands.specs.Depends.{shown}
+
+-- what a reach that shows the least set shows of an entry of a sound table
+pub shown : (reacher : Reacher) → ShowsTheLeast reacher → (t : Table) → table_fault t ≡ Answer.Accepted → (k : ℕ) → k < t.n → Shows t k (reacher t k)
+unfolding reach_fault unsound_table
+shown reacher least t good k there =
+    let asked : reach_fault t k ≡ Answer.Accepted = rw (good, lt-ltb k t.n there) refl in
+    (subst (λ (a : Answer). ReachReply t k a (reacher t k)) asked (least t k)).1
 
 -- an event import and the time of its latest occurrence
 abbrev pub timed : Table

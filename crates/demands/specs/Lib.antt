@@ -2,9 +2,6 @@
 pub mod Scripts
 pub mod Lazy
 pub mod Monitors
-pub mod Knows
 pub mod LazyMonitors
 pub mod Reaches
-pub mod Depends
 pub mod LazyReaches
-pub mod AgreementAlone

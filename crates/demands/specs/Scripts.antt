@@ -12,8 +12,8 @@ use Rattle.script.specs.declared.Script.{Script}
 use Rattle.script.specs.declared.Written.{Written}
 use Rattle.script.specs.Reader.{script_of, script_reply, read_script, block_of}
 use Rattle.script.specs.Writer.{script_bytes, writer_fault, written_reply, written_bytes, write_script, write_bytes}
-use Rattle.roundtrip.specs.WrittenAgain.{table_again, labels_again}
-use Rattle.roundtrip.specs.ReadAgain.{script_again, writer_takes}
+use Rattle.roundtrip.proofs.WrittenAgain.{table_again, labels_again}
+use Rattle.roundtrip.proofs.ReadAgain.{script_again, writer_takes}
 
 -- a reader and a writer: what is read of any bytes, their block of labels, what a write answers, and what the destination then holds
 pub record Build : Type 0 where

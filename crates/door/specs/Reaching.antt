@@ -12,7 +12,7 @@ use Rattle.monitor.specs.declared.Monitor.{Monitor}
 use Rattle.reach.specs.declared.Reach.{Reach}
 use Rattle.reach.specs.Reaching.{reach_fault, ReachReply}
 use Rattle.reach.specs.Spreading.{reach_of}
-use Rattle.reach.specs.Shown.{reply_is}
+use Rattle.reach.proofs.Shown.{reply_is}
 use Rattle.words.specs.Layout.{followed, state_words}
 use Rattle.words.specs.Unpacking.{monitor_in, state_fault}
 use Rattle.door.specs.Leaving.{Left, if_size, Leaves, leaves_same, right_size, wrong_size_lem, sizes_right, first_wrong, second_wrong}

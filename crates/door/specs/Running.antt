@@ -15,7 +15,7 @@ use Rattle.table.specs.Limits.{limits}
 use Rattle.table.specs.Sound.{sound_table}
 use Rattle.script.specs.declared.Script.{Script}
 use Rattle.script.specs.Reader.{script_of, script_reply, read_script}
-use Rattle.roundtrip.specs.ReadAgain.{read_shaped, read_sound}
+use Rattle.roundtrip.proofs.ReadAgain.{read_shaped, read_sound}
 use Rattle.parts.specs.Shown.{outcome_number}
 use Rattle.step.specs.declared.TruthSlot.{TruthSlot}
 use Rattle.step.specs.Steps.{Step}
@@ -27,12 +27,12 @@ use Rattle.monitor.specs.declared.Stepped.{Stepped}
 use Rattle.monitor.specs.Keeping.{unsound, fresh, start_on}
 use Rattle.monitor.specs.Stepping.{result_in, step_of}
 use Rattle.knowing.specs.Recalling.{recall_of}
-use Rattle.knowing.specs.Knowing.{start_recalls}
+use Rattle.knowing.proofs.Knowing.{start_recalls}
 use Rattle.knowing.specs.Fitting.{HistoryFits}
 use Rattle.knowing.specs.Arriving.{history_fits}
-use Rattle.knowing.specs.Ranges.{result_fits}
-use Rattle.knowing.specs.Staying.{recall_sound}
-use Rattle.knowing.specs.Answering.{reply_for, reply_answer, reply_monitor, slot_result, step_answers}
+use Rattle.knowing.proofs.Ranges.{result_fits}
+use Rattle.knowing.proofs.Staying.{recall_sound}
+use Rattle.knowing.proofs.Answering.{reply_for, reply_answer, reply_monitor, slot_result, step_answers}
 use Rattle.words.specs.Words.{outcome_word}
 use Rattle.words.specs.Layout.{Kept, state_words, state_of}
 use Rattle.words.specs.Unpacking.{state_fault}

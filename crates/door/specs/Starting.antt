@@ -11,7 +11,7 @@ use Rattle.table.specs.declared.Table.{Table}
 use Rattle.table.specs.Faults.{as_unsound, unsound_table}
 use Rattle.script.specs.declared.Script.{Script}
 use Rattle.script.specs.Reader.{script_of, script_reply, read_script}
-use Rattle.roundtrip.specs.ReadAgain.{read_sound}
+use Rattle.roundtrip.proofs.ReadAgain.{read_sound}
 use Rattle.monitor.specs.declared.Started.{Started}
 use Rattle.monitor.specs.Keeping.{fresh, start_reply, start_on}
 use Rattle.words.specs.Layout.{state_words, state_of}

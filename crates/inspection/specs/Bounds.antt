@@ -11,7 +11,7 @@ use Rattle.table.specs.Limits.{limits}
 use Rattle.table.specs.Kinds.{kind_of, labelled}
 use Rattle.table.specs.Tables.{entry_at}
 use Rattle.script.specs.Reader.{script_of, label_of, text_of}
-use Rattle.roundtrip.specs.ReadAgain.{script_few}
+use Rattle.roundtrip.proofs.ReadAgain.{script_few}
 use Rattle.parts.specs.Within.{label_text_short}
 use Rattle.reach.specs.declared.Reach.{Reach}
 use Rattle.reach.specs.Reaching.{reach_fault}

@@ -11,7 +11,7 @@ use Rattle.kinds.specs.Apart.{apart_of}
 use Rattle.reach.specs.declared.Reach.{Reach}
 use Rattle.reach.specs.Reaching.{reach_fault, ReachReply}
 use Rattle.reach.specs.Spreading.{reach_of}
-use Rattle.reach.specs.Shown.{reply_is}
+use Rattle.reach.proofs.Shown.{reply_is}
 use Rattle.lines.specs.Text.{decimal, alarm_word, line}
 use Rattle.lines.specs.Laying.{Lays, lays_none, lays_then}
 use Rattle.inspection.specs.Inspected.{property_word, entries_word, imports_word, clock_word, yes_or_no, marked_from, rule_word, rule_lines, rules_to}

@@ -11,7 +11,7 @@ use Rattle.table.specs.declared.Table.{Table}
 use Rattle.table.specs.Limits.{limits}
 use Rattle.script.specs.declared.Script.{Script}
 use Rattle.script.specs.Reader.{script_of, script_reply, read_script}
-use Rattle.roundtrip.specs.ReadAgain.{script_few}
+use Rattle.roundtrip.proofs.ReadAgain.{script_few}
 use Rattle.lines.specs.Text.{script_line, script_refused_line}
 use Rattle.lines.specs.Laying.{Lays, lays_then}
 use Rattle.inspection.specs.Inspected.{rules_to, lines_of, inspected}

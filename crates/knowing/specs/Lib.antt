@@ -6,9 +6,4 @@ pub mod Cells
 pub mod Telling
 pub mod Variables
 pub mod Imports
-pub mod Walking
-pub mod Knowing
 pub mod Arriving
-pub mod Ranges
-pub mod Staying
-pub mod Answering

@@ -3,5 +3,3 @@ pub mod Reaching
 pub mod Naming
 pub mod Counting
 pub mod Spreading
-pub mod Spread
-pub mod Shown

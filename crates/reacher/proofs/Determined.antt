@@ -1,6 +1,6 @@
 -- "The team proves that two replies allowed by the statement are equal": the least set is one set only, and so are the marks.
 use Rattle.replies.specs.Replies.{Determined}
-use Rattle.reach.specs.Shown.{reply_same}
+use Rattle.reach.proofs.Shown.{reply_same}
 use Rattle.reacher.proofs.of_entry.Reads as of_entry
 
 pub reaches : Determined of_entry.Post

@@ -18,7 +18,7 @@ use Rattle.kinds.specs.Apart.{apart_of}
 use Rattle.reacher.specs.declared.touched.Touched.{Touched}
 use Rattle.reach.specs.Reaching.{names_import, reads_clock, reaches_import, reaches_clock}
 use Rattle.reach.specs.Spreading.{set_of}
-use Rattle.reach.specs.Shown.{no_import}
+use Rattle.reach.proofs.Shown.{no_import}
 use Rattle.reacher.specs.Named.{import_named, import_first}
 
 -- what marked entries touch: "It reaches an import exactly if kind 0, 9 or 20 in the set names it, and the clock exactly if the set holds kind 19 or 21."

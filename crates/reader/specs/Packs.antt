@@ -9,8 +9,8 @@ use Rattle.table.specs.declared.Table.{Table}
 use Rattle.table.specs.Limits.{limits}
 use Rattle.script.specs.Reader.{header, imports, variables, entries, packed_table}
 use Rattle.table.specs.Sound.{Within}
-use Rattle.roundtrip.specs.ReadSoFar.{SoFar, first_parts}
-use Rattle.roundtrip.specs.ReadTable.{header_read, imports_read, variables_read, entries_read}
+use Rattle.roundtrip.proofs.ReadSoFar.{SoFar, first_parts}
+use Rattle.roundtrip.proofs.ReadTable.{header_read, imports_read, variables_read, entries_read}
 use Rattle.reader.specs.declared.Stage.{Stage}
 use Rattle.reader.specs.Stages.{reached_by, reached}
 

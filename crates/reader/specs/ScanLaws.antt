@@ -22,7 +22,7 @@ use Rattle.bits.specs.Bits.{padding_at}
 use Rattle.bits.specs.Holding.{width_of_all}
 use Rattle.bits.specs.Fields.{there_ends}
 use Rattle.script.specs.Writer.{table_parts}
-use Rattle.roundtrip.specs.ReadTable.{table_read}
+use Rattle.roundtrip.proofs.ReadTable.{table_read}
 use Rattle.reader.specs.declared.Scan.{Scan}
 use Rattle.reader.specs.Scans.{block_span, scan_of, refused_scan, shown}
 

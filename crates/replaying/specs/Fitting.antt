@@ -18,7 +18,7 @@ use Rattle.bits.specs.Reading.{Got, got, refused}
 use Rattle.table.specs.declared.Table.{Table}
 use Rattle.table.specs.Limits.{limits}
 use Rattle.script.specs.Reader.{script_of}
-use Rattle.roundtrip.specs.ReadAgain.{script_few}
+use Rattle.roundtrip.proofs.ReadAgain.{script_few}
 use Rattle.step.specs.declared.Taken.{Taken}
 use Rattle.monitor.specs.declared.Monitor.{Monitor}
 use Rattle.monitor.specs.declared.Stepped.{Stepped}

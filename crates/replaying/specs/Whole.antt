@@ -13,15 +13,15 @@ use Rattle.table.specs.Tables.{Shaped}
 use Rattle.table.specs.Faults.{table_fault}
 use Rattle.table.specs.Sound.{sound_table}
 use Rattle.script.specs.Reader.{script_of}
-use Rattle.roundtrip.specs.ReadAgain.{read_shaped, read_sound}
+use Rattle.roundtrip.proofs.ReadAgain.{read_shaped, read_sound}
 use Rattle.step.specs.Steps.{Step}
 use Rattle.history.specs.History.{History}
 use Rattle.history.specs.Offered.{offered, grown, history_of}
 use Rattle.monitor.specs.declared.Started.{Started}
 use Rattle.monitor.specs.declared.Stepped.{Stepped}
 use Rattle.knowing.specs.Recalling.{recall_of}
-use Rattle.knowing.specs.Knowing.{start_recalls}
-use Rattle.knowing.specs.Answering.{reply_for, recall_table, recall_last, slot_result, step_answers}
+use Rattle.knowing.proofs.Knowing.{start_recalls}
+use Rattle.knowing.proofs.Answering.{reply_for, recall_table, recall_last, slot_result, step_answers}
 use Rattle.stream.specs.Lines.{result_line}
 use Rattle.stream.specs.Records.{whole, next_record, records_of}
 use Rattle.stream.specs.Cutting.{rest_shorter, by_next}

@@ -1,13 +1,12 @@
 -- Bits and numbers of 48 bits, read: they are in range, and are packed as the same fields.
-use Rattle.std.specs.Prelude.{Bool, true, false, cond, ◌||◌, [], ◌∷◌, ◌≡◌, refl, ℕ, zero, suc, ◌-◌, ◌^◌, ◌<◌, ltb, eqb, pos, negsuc}
-use Rattle.std.proofs.Common.{sym, ap, arith, lt-ltb, ltb-false, eqb-true}
+use Rattle.std.specs.Prelude.{Bool, true, false, cond, ◌≡◌, refl, ℕ, zero, suc, ◌-◌, ◌^◌, ◌<◌, ltb, eqb, pos, negsuc}
+use Rattle.std.proofs.Common.{arith, lt-ltb, ltb-false}
 use Rattle.values.specs.Numbers.{in_range}
 use Rattle.refusals.specs.declared.Answer.{Answer}
 use Rattle.values.specs.declared.Number.{Number}
 use Rattle.bits.specs.Twos.{signed, unsigned}
 use Rattle.table.specs.Faults.{number_fault}
 use Rattle.script.specs.Reader.{starting}
-use Rattle.script.specs.Writer.{part, number_parts}
 
 -- the number in the field again
 pub unsigned_signed : (v : ℕ) → v < 2 ^ 48 → unsigned (signed v) ≡ v
@@ -33,14 +32,7 @@ bit_again zero h = refl
 bit_again (suc zero) h = refl
 bit_again (suc (suc b)) h = absurd (omega arith)
 
--- "48 bits, two's complement; all zero where it starts undefined": a variable's start
-pub starting_again : (bit v : ℕ) → bit < 2 → v < 2 ^ 48 → (eqb bit 1 || eqb v 0) ≡ true
-    → number_parts (starting bit v) ≡ part 1 bit ∷ part 48 v ∷ []
-starting_again zero v two h good = ap (λ (u : ℕ). part 1 0 ∷ part 48 u ∷ []) (sym (eqb-true v 0 good))
-starting_again (suc zero) v two h good = ap (λ (u : ℕ). part 1 1 ∷ part 48 u ∷ []) (unsigned_signed v h)
-starting_again (suc (suc b)) v two h good = absurd (omega arith)
-
--- and it is no fault
+-- a variable's start is no fault
 pub starting_sound : (bit v : ℕ) → v < 2 ^ 48 → number_fault (starting bit v) ≡ Answer.Accepted
 unfolding number_fault
 starting_sound bit v h = by_test (eqb bit 1)

@@ -23,7 +23,7 @@ use Rattle.refusals.specs.Accepting.{unless_accepted}
 use Rattle.table.specs.Sound.{Within, Sound}
 use Rattle.roundtrip.specs.WrittenSoFar.{so_far, so_far_import, so_far_variable, so_far_entry, so_far_operand, so_far_all}
 use Rattle.roundtrip.specs.WrittenTwos.{signed_unsigned}
-use Rattle.roundtrip.specs.WrittenFitting.{table_fits}
+use Rattle.roundtrip.proofs.WrittenFitting.{table_fits}
 use Rattle.roundtrip.specs.WrittenHeld.{header_held, begins_at, joined_held, joined_next, joined_start}
 use Rattle.roundtrip.specs.WrittenEntries.{entry_held}
 

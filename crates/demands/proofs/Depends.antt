@@ -1,23 +1,23 @@
 -- Demand 3 follows from demand 2 and the least set: proved of every machine that knows the history and every reach that shows the least set, so of ours.
-use Rattle.std.specs.Prelude.{List, [], ◌∷◌, ◌≡◌, refl, ℕ, ◌<◌}
-use Rattle.std.proofs.Common.{sym, ◌∙◌, ap, subst, lt-ltb}
+use Rattle.std.specs.Prelude.{List, [], ◌∷◌, ◌≡◌, refl, ℕ}
+use Rattle.std.proofs.Common.{sym, ◌∙◌, ap}
 use Rattle.refusals.specs.declared.Answer.{Answer}
 use Rattle.bits.specs.Reading.{Got, got, refused, answered}
 use Rattle.table.specs.declared.Table.{Table}
-use Rattle.table.specs.Faults.{table_fault, unsound_table}
+use Rattle.table.specs.Faults.{table_fault}
 use Rattle.table.specs.Tables.{Shaped}
 use Rattle.script.specs.Reader.{script_of}
-use Rattle.roundtrip.specs.ReadAgain.{read_shaped, read_sound}
+use Rattle.roundtrip.proofs.ReadAgain.{read_shaped, read_sound}
 use Rattle.step.specs.Steps.{Step}
 use Rattle.history.specs.Offered.{grown, history_of}
 use Rattle.monitor.specs.Stepping.{result_in}
-use Rattle.reach.specs.Reaching.{reach_fault, ReachReply, Shows}
 use Rattle.reach.specs.Spreading.{reach_of}
-use Rattle.reach.specs.Shown.{reply_worked_out}
+use Rattle.reach.proofs.Shown.{reply_worked_out}
 use Rattle.agreement.specs.Agreeing.{results_of_rule}
-use Rattle.agreement.specs.Same.{shown_same}
+use Rattle.agreement.proofs.Same.{shown_same}
 use Rattle.demands.specs.Monitors.{Machine, reply_to, heard, SaysTheLogic, AnswersAsDefined, KnowsTheHistory, our_machine}
-use Rattle.demands.specs.Knows.{each_result, ours_knows}
+use Rattle.demands.proofs.Knows.{each_result, ours_knows}
+use Rattle.demands.specs.LazyReaches.{shown}
 use Rattle.demands.specs.Reaches.{Reacher, ShowsTheLeast, given_if, given_to, SameInTheLogic, SameInTheMonitor, DependsOnReach}
 
 -- a machine that knows the history gives a rule, at every step that it accepts, what the logic says
@@ -36,13 +36,6 @@ given_logic machine t says answers k (bytes ∷ before) = by (heard t before byt
         ≡ results_of_rule t k (grown (history_of t before) g)
     by (got s end) e earlier = answer (got s end) e ∙ (λ i. each_result machine t says before bytes s end e k i ∷ earlier i)
     by (refused r) e earlier = answer (refused r) e ∙ earlier
-
--- what a reach that shows the least set shows of an entry of a sound table
-pub shown : (reacher : Reacher) → ShowsTheLeast reacher → (t : Table) → table_fault t ≡ Answer.Accepted → (k : ℕ) → k < t.n → Shows t k (reacher t k)
-unfolding reach_fault unsound_table
-shown reacher least t good k there =
-    let asked : reach_fault t k ≡ Answer.Accepted = rw (good, lt-ltb k t.n there) refl in
-    (subst (λ (a : Answer). ReachReply t k a (reacher t k)) asked (least t k)).1
 
 -- "Two streams that agree on what a rule reaches give it the same results, in the logic and in the monitor"
 pub least_suffices : (machine : Machine) → KnowsTheHistory machine → (reacher : Reacher) → ShowsTheLeast reacher → DependsOnReach machine reacher

@@ -19,9 +19,9 @@ use Rattle.monitor.specs.declared.Stepped.{Stepped}
 use Rattle.monitor.specs.Stepping.{result_in, refused_step, step_reply, taken_by, sound_step, step_of}
 use Rattle.knowing.specs.Recalling.{recall_of, slots_of}
 use Rattle.knowing.specs.Fitting.{HistoryFits}
-use Rattle.knowing.specs.Knowing.{step_recalls}
+use Rattle.knowing.proofs.Knowing.{step_recalls}
 use Rattle.knowing.specs.Arriving.{history_fits}
-use Rattle.knowing.specs.Staying.{recall_sound}
+use Rattle.knowing.proofs.Staying.{recall_sound}
 
 -- the reply to a step, or to a refused one, by a monitor that knows history h
 abbrev pub reply_for : Table → History → Got Step → Stepped

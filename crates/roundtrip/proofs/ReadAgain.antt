@@ -16,7 +16,7 @@ use Rattle.script.specs.Labels.{labels}
 use Rattle.script.specs.Reader.{packed_table, whole_script, script_of, block_of}
 use Rattle.script.specs.Writer.{table_parts, script_bytes, block_fault, writer_fault}
 use Rattle.bits.specs.Giving.{Gives, gives_value, gives_refused, gives_onward, gives_ended}
-use Rattle.roundtrip.specs.ReadTable.{TableRead, table_read}
+use Rattle.roundtrip.proofs.ReadTable.{TableRead, table_read}
 use Rattle.roundtrip.specs.ReadBlock.{block_sound}
 
 -- how many bytes a table takes

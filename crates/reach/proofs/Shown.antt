@@ -22,7 +22,7 @@ use Rattle.reach.specs.declared.Reach.{Reach}
 use Rattle.reach.specs.Reaching.{Entries, leads_to, Least, least_same, names_import, reaches_import, reaches_clock, marked_in, Shows, reach_fault, ReachReply}
 use Rattle.reach.specs.Naming.{import_below}
 use Rattle.reach.specs.Spreading.{set_of, reached_from, marks_of, reach_reply, reach_of, the_reach}
-use Rattle.reach.specs.Spread.{reached_least, length_reached}
+use Rattle.reach.proofs.Spread.{reached_least, length_reached}
 
 -- two tests of which each passes where the other does are the same
 same_test : (a b : Bool) → (T a → T b) → (T b → T a) → a ≡ b

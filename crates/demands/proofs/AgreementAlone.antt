@@ -17,9 +17,9 @@ use Rattle.history.specs.History.{History}
 use Rattle.history.specs.Offered.{grown, history_of}
 use Rattle.monitor.specs.Stepping.{result_in}
 use Rattle.reach.specs.Reaching.{Entries}
-use Rattle.reach.specs.Shown.{reached_below}
+use Rattle.reach.proofs.Shown.{reached_below}
 use Rattle.agreement.specs.Agreeing.{Touching, Agree, touching_in, touching_by}
-use Rattle.agreement.specs.Same.{same_results}
+use Rattle.agreement.proofs.Same.{same_results}
 use Rattle.demands.specs.Monitors.{Machine, reply_to, heard, AnswersAsDefined}
 use Rattle.demands.specs.LazyMonitors.{SameResults}
 use Rattle.demands.specs.Reaches.{Reacher, given_if, given_to, SameInTheLogic, SameInTheMonitor}

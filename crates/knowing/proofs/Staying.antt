@@ -22,7 +22,7 @@ use Rattle.monitor.specs.Keeping.{cell_at, held_in, unsound}
 use Rattle.monitor.specs.Laws.{sound_monitor}
 use Rattle.knowing.specs.Recalling.{latest_kept, left, left_by, recall_of}
 use Rattle.knowing.specs.Fitting.{HistoryFits}
-use Rattle.knowing.specs.Ranges.{MomentsFit, held_fits, moments_fit}
+use Rattle.knowing.proofs.Ranges.{MomentsFit, held_fits, moments_fit}
 
 -- the kept time of the last accepted step
 last_kept : (h : History) → HistoryFits h → earliest h ≤ 2 ^ 47

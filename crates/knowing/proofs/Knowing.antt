@@ -29,7 +29,7 @@ use Rattle.history.specs.Rows.{row_length}
 use Rattle.knowing.specs.Imports.{reported_next}
 use Rattle.knowing.specs.Carrying.{carries}
 use Rattle.knowing.specs.Cells.{nothing_left, cells_all}
-use Rattle.knowing.specs.Walking.{walk_of, walk_to_lem}
+use Rattle.knowing.proofs.Walking.{walk_of, walk_to_lem}
 
 -- "a monitor that holds that table and no accepted step yet" knows the history of no step
 fresh_recalls : (t : Table) → Shaped t → fresh t ≡ recall_of t []

@@ -18,7 +18,8 @@ use Rattle.table.specs.Faults.{number_fault, operand_fault, operands_fault}
 use Rattle.script.specs.Reader.{with_event, with_variable, with_entry, starting}
 use Rattle.script.specs.Writer.{part, joined, header_parts, import_parts, number_parts, entry_parts}
 use Rattle.bits.specs.Fields.{there_lt}
-use Rattle.roundtrip.specs.ReadNumbers.{bit_again, starting_again, starting_sound}
+use Rattle.roundtrip.specs.ReadNumbers.{bit_again, starting_sound}
+use Rattle.roundtrip.proofs.ReadStarting.{starting_again}
 use Rattle.roundtrip.specs.ReadStanding.{Stands, stands_none, stands_more, stands_append}
 
 -- the fields of a table's counts and of its first i imports, x variables and k entries

@@ -24,8 +24,8 @@ use Rattle.refusals.specs.Accepting.{unless_accepted}
 use Rattle.bits.specs.Reading.{◌>>=◌, field, whatever}
 use Rattle.bits.specs.Giving.{Gives, gives_value, gives_onward, gives_field}
 use Rattle.roundtrip.specs.ReadStanding.{Stands, stands_none, stands_more}
-use Rattle.roundtrip.specs.ReadEntries.{entry_read}
-use Rattle.roundtrip.specs.ReadSoFar.{SoFar, import_step, variable_step, entry_step}
+use Rattle.roundtrip.proofs.ReadEntries.{entry_read}
+use Rattle.roundtrip.proofs.ReadSoFar.{SoFar, import_step, variable_step, entry_step}
 use Rattle.table.specs.Sound.{Within, within_limits, table_sound}
 use Rattle.roundtrip.specs.ReadFaults.{unused_slots_lem}
 

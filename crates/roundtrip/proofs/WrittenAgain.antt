@@ -15,7 +15,7 @@ use Rattle.script.specs.Reader.{whole_script, script_of, script_reply, read_scri
 use Rattle.script.specs.Writer.{table_parts, script_bytes, block_fault, writer_fault}
 use Rattle.refusals.specs.Accepting.{not_accepted, unless_accepted, accepted_first, accepted_second}
 use Rattle.table.specs.Sound.{sound_table}
-use Rattle.roundtrip.specs.WrittenTable.{packed_again}
+use Rattle.roundtrip.proofs.WrittenTable.{packed_again}
 use Rattle.roundtrip.specs.WrittenLabels.{moved, same, block_moved}
 
 -- a reading that went through, so many bits further on

@@ -21,10 +21,10 @@ use Rattle.monitor.specs.Keeping.{last_time, unsound, fresh, start_reply, start_
 use Rattle.monitor.specs.Stepping.{result_in, refused_step, step_of}
 use Rattle.knowing.specs.Recalling.{recall_of}
 use Rattle.knowing.specs.Fitting.{HistoryFits}
-use Rattle.knowing.specs.Knowing.{start_recalls}
+use Rattle.knowing.proofs.Knowing.{start_recalls}
 use Rattle.knowing.specs.Arriving.{history_fits}
-use Rattle.knowing.specs.Staying.{recall_sound}
-use Rattle.knowing.specs.Answering.{reply_for, reply_answer, reply_monitor, slot_result, step_answers}
+use Rattle.knowing.proofs.Staying.{recall_sound}
+use Rattle.knowing.proofs.Answering.{reply_for, reply_answer, reply_monitor, slot_result, step_answers}
 use Rattle.demands.specs.Monitors.{Machine, after, reply_to, heard, results_for, kept_if, accepted_of, last_of, SaysTheLogic, Knows, Refuses, KnowsTheHistory, our_machine}
 
 -- what a step answers to a monitor that knows history h holds the results that the logic says

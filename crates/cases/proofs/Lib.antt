@@ -1,0 +1,2 @@
+-- Where the readings that mislead differ.
+pub mod Differing
