@@ -126,7 +126,8 @@ pub(crate) fn variables(s: &[u8], at: usize, t: Table) -> Stage
         let Field::There(number) = bits::field_at(s, next, 48) else {
             return refused(Refusal::Cut);
         };
-        if bit != 1 && number != 0 {
+        let undefined = bit != 1;
+        if undefined && number != 0 {
             return refused(Refusal::Initial);
         }
         next += 48;

@@ -8,7 +8,7 @@ use lib.Dec.{eqb}
 use Rattle.bits.specs.declared.Field.{Field}
 use Rattle.bits.specs.Bits.{field_at}
 use Rattle.reader.specs.Heads.{variable_cut, number_cut, variable_refused, variable_next, variables_done}
-use Rattle.reader.proofs.head.variables.Goals.{else-bit-ne1-via-else-bit-ne1, else-bit-ne1-via-then-bit-ne1+else-number-ne0}
+use Rattle.reader.proofs.head.variables.Goals.{else-undefined-via-else-undefined, else-undefined-via-then-undefined+else-number-ne0}
 use Rattle.reader.proofs.head.variables.Goals as goal
 
 pub returns-in_default : goal.returns-in_default
@@ -32,7 +32,7 @@ returns-then-number-ne0 c =
     let bit : ℕ = c.in-There.bit in
     let number : ℕ = c.in-There-field_at.number in
     let bit_is : field_at c.args.s.now c.loop-x.next 1 ≡ Field.There bit = sym c.field_at.ensures ∙ c.in-There.is in
-    let unsound : (eqb bit 1 || eqb number 0) ≡ false = ap₂ ◌||◌ (ne_eqb bit 1 c.if-bit-ne1.true) (ne_eqb number 0 c.if-number-ne0.true) in
+    let unsound : (eqb bit 1 || eqb number 0) ≡ false = ap₂ ◌||◌ (ne_eqb bit 1 c.if-undefined.true) (ne_eqb number 0 c.if-number-ne0.true) in
     c.refused-then-number-ne0.ensures
     ∙ sym (variable_refused c.args.t.v c.loop-x.x c.loop-x-test.true c.loop-x.table c.args.s.now c.loop-x.next
     bit bit_is number (sym c.field_at-in-loop-x.ensures ∙ c.in-There-field_at.is) unsound)
@@ -43,7 +43,7 @@ loop-x-preserved c =
     let bit : ℕ = c.in-There.bit in
     let number : ℕ = c.in-There-field_at.number in
     let bit_is : field_at c.args.s.now c.loop-x.next 1 ≡ Field.There bit = sym c.field_at.ensures ∙ c.in-There.is in
-    let sound : (eqb bit 1 || eqb number 0) ≡ true = elim c.else-bit-ne1.branch [ else-bit-ne1-via-then-bit-ne1+else-number-ne0 w ↦ ap₂ ◌||◌ (ne_eqb bit 1 w.if-bit-ne1.true) (eq-eqb number 0 w.if-number-ne0.false) | else-bit-ne1-via-else-bit-ne1 w ↦ rw (eq-eqb bit 1 w.if-bit-ne1.false) ] in (
+    let sound : (eqb bit 1 || eqb number 0) ≡ true = elim c.else-undefined.branch [ else-undefined-via-then-undefined+else-number-ne0 w ↦ ap₂ ◌||◌ (ne_eqb bit 1 w.if-undefined.true) (eq-eqb number 0 w.if-number-ne0.false) | else-undefined-via-else-undefined w ↦ rw (eq-eqb bit 1 w.if-undefined.false) ] in (
       omega arith,
       (
         omega arith,
