@@ -55,7 +55,8 @@ pub fn nimbra_reach(state: &[u64], entry: u64, marks: &mut [u8]) -> u8
     if state.len() != WORDS {
         return WRONG_SIZE;
     }
-    if marks.len() != 177 {
+    let wrong_marks = marks.len() != 177;
+    if wrong_marks {
         return WRONG_SIZE;
     }
     match words::state_fault(state) {

@@ -10,7 +10,8 @@ use words::WORDS;
 pub fn nimbra_start(script: &[u8], state: &mut [u64]) -> u8
     ensures { Leaves (start_door script.now state.old) result state.new }
 {
-    if state.len() != WORDS {
+    let wrong_words = state.len() != WORDS;
+    if wrong_words {
         return WRONG_SIZE;
     }
     let read = reader::read(script);

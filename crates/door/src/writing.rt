@@ -30,7 +30,8 @@ pub fn nimbra_write(state: &[u64], labels: &[u8], out: &mut [u8], size: &mut [u6
     if state.len() != WORDS {
         return WRONG_SIZE;
     }
-    if size.len() != 1 {
+    let wrong_size = size.len() != 1;
+    if wrong_size {
         return WRONG_SIZE;
     }
     match words::state_fault(state) {

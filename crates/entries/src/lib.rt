@@ -96,13 +96,15 @@ pub fn read(
 ) -> Entered
     ensures { result ≡ entered sorts.now events.now q v k s.now at }
 {
-    if 4096 < s.len() {
+    let too_long = 4096 < s.len();
+    if too_long {
         return Entered::Refused(Refusal::TooLong);
     }
     let Field::There(kind) = bits::field_at(s, at, 5) else {
         return Entered::Refused(Refusal::Cut);
     };
-    if 25 <= kind {
+    let unknown = 25 <= kind;
+    if unknown {
         return Entered::Refused(Refusal::Kind);
     }
     let places = kinds::apart_of(kinds::made(kind as usize, 0, 0, 0, 0));

@@ -10,7 +10,8 @@ pub fn labelled(e: Entry) -> bool
     ensures { result ≡ labelled e }
 {
     let kind = kinds::apart_of(e).kind;
-    if kind == 23 {
+    let alarm = kind == 23;
+    if alarm {
         return true;
     }
     kind == 24

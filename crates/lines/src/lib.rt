@@ -49,7 +49,8 @@ fn put_small(out: &mut [u8], at: usize, n: u64) -> usize
     requires { n < 100 }
     ensures { Lays out.old at (decimal n) out.new result }
 {
-    if n < 10 {
+    let one_digit = n < 10;
+    if one_digit {
         return put_digit(out, at, n);
     }
     let next = put_digit(out, at, n / 10);

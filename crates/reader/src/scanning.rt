@@ -88,7 +88,8 @@ fn labels_from(s: &[u8], k: usize, from: usize, t: Table) -> Scan
 pub fn scan_script(s: &[u8], k: usize) -> Scan
     ensures { result ≡ scan_of s.now k }
 {
-    if 4096 < s.len() {
+    let too_long = 4096 < s.len();
+    if too_long {
         return refused_scan(Refusal::TooLong);
     }
     let stage = packed(s);

@@ -24,10 +24,12 @@ fn printed_line(
     requires { k < 128 }
     ensures { Lays out.old at (result_line time k (text_kept texts.now sizes.now k) (printed w)) out.new result }
 {
-    if w == 10 {
+    let raised = w == 10;
+    if raised {
         return word_line(out, at, time, b"alarm", k, text_of(texts, k, sizes[k]));
     }
-    if w == 12 {
+    let violated = w == 12;
+    if violated {
         return word_line(out, at, time, b"violated", k, text_of(texts, k, sizes[k]));
     }
     at

@@ -46,7 +46,8 @@ fn close(s: &[u8], at: usize) -> Answer
     let Field::There(zeros) = bits::field_at(s, at, w) else {
         return Answer::Refused(Refusal::StepCut);
     };
-    if zeros != 0 {
+    let padded = zeros != 0;
+    if padded {
         return Answer::Refused(Refusal::StepPadding);
     }
     if (at + w) / 8 != s.len() {

@@ -28,7 +28,8 @@ fn words_fault(state: &[u64], other: &[u64]) -> Answer
 pub fn state_fault(state: &[u64]) -> Answer
     ensures { result ≡ state_fault state.now }
 {
-    if state.len() != WORDS {
+    let wrong_size = state.len() != WORDS;
+    if wrong_size {
         return Answer::Refused(Refusal::Unsound);
     }
     let m = monitor_in(state);

@@ -8,24 +8,21 @@ use Rattle.entries.proofs.judged.Goals as goal
 -- the field isn't there
 pub returns-in_default : goal.returns-in_default
 returns-in_default c =
-    let start = c in
-    cut_there _ _ _ _ _ _ _ _ _ start.requires.1.0 start.requires.1.1 (sym c.field_at.ensures ∙ c.in_default.is)
+    cut_there _ _ _ _ _ _ _ _ _ c.requires.1.0 c.requires.1.1 (sym c.field_at.ensures ∙ c.in_default.is)
 
 -- a field that is there ends within the script's bytes
 pub overflow_add-result : goal.overflow_add-result
 overflow_add-result c =
-    let start = c in
     omega (
       arith,
-      there_ends start.args.s.now _ _ _ (sym c.field_at.ensures ∙ c.in-There.is),
-      start.requires.0,
+      there_ends c.args.s.now _ _ _ (sym c.field_at.ensures ∙ c.in-There.is),
+      c.requires.0,
     )
 
 -- it is judged
 pub returns : goal.returns
 returns c =
-    let start = c in
-    judged_there _ _ _ _ _ _ _ _ _ start.requires.1.0 _
+    judged_there _ _ _ _ _ _ _ _ _ c.requires.1.0 _
     (sym c.field_at.ensures ∙ c.in-There.is)
     c.holding.ensures
     c.judge.ensures

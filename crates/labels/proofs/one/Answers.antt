@@ -49,7 +49,6 @@ returns-then-s-first c =
     let there : field_at bytes (8 * place) 8 ≡ Field.There long = sym c.byte_at.ensures ∙ c.in-There.is in
     let begun : place < length bytes = length_within bytes place long there in
     let on-text : label bytes (8 * place) ≡ text long bytes (8 * (place + 1)) = label_text_lem bytes place long there (omega arith) in
-    let at = c in
     sym (ap found_in (on-text ∙ text_cut bytes (place + 1) long (omega (arith, begun))))
 
 pub overflow_add-first-2 : goal.overflow_add-first-2
@@ -81,10 +80,8 @@ returns-then-not-all_printable c =
     let begun : place < length bytes = length_within bytes place long there in
     let on-text : label bytes (8 * place) ≡ text long bytes (8 * (place + 1)) = label_text_lem bytes place long there (omega arith) in
     let room : place + 1 + long ≤ length bytes = omega (arith, begun) in
-    let judged : c.all_printable.result ≡ printable (take long (drop (place + 1) bytes)) = let at = c in
-    c.all_printable.ensures
+    let judged : c.all_printable.result ≡ printable (take long (drop (place + 1) bytes)) = c.all_printable.ensures
     ∙ ap (λ (n : ℕ). printable (take n (drop (place + 1) bytes))) {x = place + 1 + long - (place + 1)} {y = long} (omega arith) in
-    let at = c in
     let outside = sym judged ∙ c.if-not-all_printable.true in
     sym (ap found_in (on-text ∙ text_fault bytes (place + 1) long room outside))
 
@@ -97,9 +94,7 @@ returns c =
     let begun : place < length bytes = length_within bytes place long there in
     let on-text : label bytes (8 * place) ≡ text long bytes (8 * (place + 1)) = label_text_lem bytes place long there (omega arith) in
     let room : place + 1 + long ≤ length bytes = omega (arith, begun) in
-    let judged : c.all_printable.result ≡ printable (take long (drop (place + 1) bytes)) = let at = c in
-    c.all_printable.ensures
+    let judged : c.all_printable.result ≡ printable (take long (drop (place + 1) bytes)) = c.all_printable.ensures
     ∙ ap (λ (n : ℕ). printable (take n (drop (place + 1) bytes))) {x = place + 1 + long - (place + 1)} {y = long} (omega arith) in
-    let at = c in
     let inside = sym judged ∙ c.if-not-all_printable.false in
     sym (ap found_in (on-text ∙ text_found bytes (place + 1) long room inside))

@@ -5,9 +5,7 @@ use Rattle.bits.proofs.putting.put_short.Goals as goal
 
 pub returns : goal.returns
 returns c =
-    let b = c in
-    let k = b in
-    let a = k.args in
+    let a = c.args in
     window_put a.s.now a.at a.w a.v _ _ _
-    (λ i h. omega (arith, k.slice_known-1.given i)) (omega arith) (omega arith) (omega arith) (omega arith) (omega arith)
-    b.window_of-window.ensures b.replace.ensures c.store.ensures
+    (λ i h. omega (arith, c.slice_known-1.given i)) (omega arith) (omega arith) (omega arith) (omega arith) (omega arith)
+    c.window_of-window.ensures c.replace.ensures c.store.ensures

@@ -7,13 +7,11 @@ use Rattle.bits.proofs.putting.put_wide.Goals as goal
 
 pub returns : goal.returns
 returns c =
-    let b = c in
-    let k = b in
-    let a = k.args in
-    let base = k.base_of-base.result in
+    let a = c.args in
+    let base = c.base_of-base.result in
     let after = 64 - (a.at - 8 * base) - a.w in
     window_put a.s.now a.at a.w a.v base 8 after
-    (λ i h. omega (arith, k.slice_known-1.given i)) (omega arith) (omega arith) (omega arith) (omega arith) (omega arith)
-    b.eight-window.ensures
-    (b.replace.ensures ∙ replaced_shifted b.eight-window.result 64 a.w after a.v (omega arith))
+    (λ i h. omega (arith, c.slice_known-1.given i)) (omega arith) (omega arith) (omega arith) (omega arith) (omega arith)
+    c.eight-window.ensures
+    (c.replace.ensures ∙ replaced_shifted c.eight-window.result 64 a.w after a.v (omega arith))
     c.store.ensures

@@ -18,5 +18,4 @@ small c =
 
 pub returns : goal.returns
 returns c =
-    let b = c in
-    omega (arith, four_bytes b.args.s.now b.args.first (small (goal.at.returns c).After-shared_slice_known-1).0 (small (goal.at.returns c).After-shared_slice_known-1).1 (small (goal.at.returns c).After-shared_slice_known-1).2 (small (goal.at.returns c).After-shared_slice_known-1).3)
+    omega (arith, four_bytes c.args.s.now c.args.first (small (goal.at.returns c).After-shared_slice_known-1).0 (small (goal.at.returns c).After-shared_slice_known-1).1 (small (goal.at.returns c).After-shared_slice_known-1).2 (small (goal.at.returns c).After-shared_slice_known-1).3)

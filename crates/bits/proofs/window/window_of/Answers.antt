@@ -1,3 +1,4 @@
+-- One more byte each turn; a number of seven bytes or fewer is not too large.
 use borrow.Author.Rules.{rules}
 use mathlib.Core.Path.{sym}
 use Prim.Native.Nat.{◌+◌}
@@ -6,16 +7,13 @@ use Rattle.bits.specs.Bits.{number_from, bits_at}
 use Rattle.bits.specs.Octets.{window_lt, window_more}
 use Rattle.bits.proofs.window.window_of.Goals as goal
 
--- src/taking.rt:15:5
 pub loop-i-init : goal.loop-i-init
 unfolding bits_at number_from
 loop-i-init c = search rules
 
--- src/taking.rt:16:18
 pub overflow_mul-number : goal.overflow_mul-number
 overflow_mul-number c = record { fits = omega (arith, window_lt c.args.s.now c.args.first c.loop-i.i (omega arith)) }
 
--- src/taking.rt:16:18
 pub overflow_add-number-in-loop-i : goal.overflow_add-number-in-loop-i
 overflow_add-number-in-loop-i c = record {
   fits = omega (
@@ -25,7 +23,6 @@ overflow_add-number-in-loop-i c = record {
   );
 }
 
--- src/taking.rt:15:5
 pub loop-i-preserved : goal.loop-i-preserved
 loop-i-preserved c = (
   omega arith,

@@ -1,3 +1,4 @@
+-- The loop's invariant: the number is what the first i bytes of the window make.
 use mathlib.Core.Path.{◌≡◌}
 use Prim.Native.Nat.{◌≤◌, ◌-◌, ◌*◌}
 use Rattle.bits.specs.Bits.{bits_at}

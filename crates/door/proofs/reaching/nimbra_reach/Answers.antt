@@ -6,8 +6,8 @@ use Rattle.door.proofs.reaching.nimbra_reach.Goals as goal
 pub returns-then-state-ne-WORDS : goal.returns-then-state-ne-WORDS
 returns-then-state-ne-WORDS c = reach_words _ _ _ (λ e. omega arith)
 
-pub returns-then-marks-ne177 : goal.returns-then-marks-ne177
-returns-then-marks-ne177 c = reach_marks _ _ _ (omega arith) (λ e. omega arith)
+pub returns-then-wrong_marks : goal.returns-then-wrong_marks
+returns-then-wrong_marks c = reach_marks _ _ _ (omega arith) (λ e. omega arith)
 
 pub returns-in-Refused : goal.returns-in-Refused
 returns-in-Refused c = search reach_unsound

@@ -3,8 +3,8 @@ use native.Mathlib.Omega.{arith}
 use Rattle.door.specs.Starting.{start_size, start_refused, start_done}
 use Rattle.door.proofs.starting.nimbra_start.Goals as goal
 
-pub returns-then-state-ne-WORDS : goal.returns-then-state-ne-WORDS
-returns-then-state-ne-WORDS c = start_size _ _ (λ e. omega arith)
+pub returns-then-wrong_words : goal.returns-then-wrong_words
+returns-then-wrong_words c = start_size _ _ (λ e. omega arith)
 
 pub returns-in-Refused : goal.returns-in-Refused
 returns-in-Refused c = search start_refused

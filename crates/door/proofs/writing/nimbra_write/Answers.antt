@@ -6,8 +6,8 @@ use Rattle.door.proofs.writing.nimbra_write.Goals as goal
 pub returns-then-state-ne-WORDS : goal.returns-then-state-ne-WORDS
 returns-then-state-ne-WORDS c = write_words _ _ _ _ (λ e. omega arith)
 
-pub returns-then-size-ne1 : goal.returns-then-size-ne1
-returns-then-size-ne1 c = write_size _ _ _ _ (omega arith) (λ e. omega arith)
+pub returns-then-wrong_size : goal.returns-then-wrong_size
+returns-then-wrong_size c = write_size _ _ _ _ (omega arith) (λ e. omega arith)
 
 pub returns-in-Refused : goal.returns-in-Refused
 returns-in-Refused c = search write_unsound

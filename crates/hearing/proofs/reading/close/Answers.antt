@@ -23,14 +23,12 @@ pub returns-then-at-w : goal.returns-then-at-w
 unfolding closed
 returns-then-at-w c =
     let zeros-are : let a = c.args in field_at a.s.now a.at (padding_at a.at) ≡ Field.There c.in-There.zeros = sym c.rest_of_byte.ensures ∙ c.in-There.is in
-    let k = c in
-    let a = k.args in
-    rw (zeros-are, eq-eqb k.in-There.zeros 0 (omega arith), ne_eqb (a.at + padding_at a.at) (8 * length a.s.now) (λ e. omega arith))
+    let a = c.args in
+    rw (zeros-are, eq-eqb c.in-There.zeros 0 (omega arith), ne_eqb (a.at + padding_at a.at) (8 * length a.s.now) (λ e. omega arith))
 
 pub returns : goal.returns
 unfolding closed
 returns c =
     let zeros-are : let a = c.args in field_at a.s.now a.at (padding_at a.at) ≡ Field.There c.in-There.zeros = sym c.rest_of_byte.ensures ∙ c.in-There.is in
-    let k = c in
-    let a = k.args in
-    rw (zeros-are, eq-eqb k.in-There.zeros 0 (omega arith), eq-eqb (a.at + padding_at a.at) (8 * length a.s.now) (omega arith))
+    let a = c.args in
+    rw (zeros-are, eq-eqb c.in-There.zeros 0 (omega arith), eq-eqb (a.at + padding_at a.at) (8 * length a.s.now) (omega arith))

@@ -14,16 +14,14 @@ use Rattle.hearing.proofs.reading.hear.Goals as goal
 
 pub returns-in_default : goal.returns-in_default
 returns-in_default c t counted are empty =
-    let f = c in
-    let a = f.args in
+    let a = c.args in
     heard_refused t a.q a.events.now counted are a.earliest a.s.now _
-    (time_cut (lent a.q a.events.now) a.earliest a.s.now (sym f.field_at.ensures ∙ c.in_default.is)) c.refused.ensures
+    (time_cut (lent a.q a.events.now) a.earliest a.s.now (sym c.field_at.ensures ∙ c.in_default.is)) c.refused.ensures
 
 pub returns-then-time-earliest : goal.returns-then-time-earliest
 returns-then-time-earliest c t counted are empty =
     let time : ℕ = c.in-There.time in
     let time_is : field_at c.args.s.now 0 47 ≡ Field.There time = sym c.field_at.ensures ∙ c.in-There.is in
-    let k = c in
     let a = c.args in
     heard_refused t a.q a.events.now counted are a.earliest a.s.now _
     (time_first (lent a.q a.events.now) a.earliest time a.s.now time_is (lt-leb a.earliest time (omega arith)))
@@ -33,12 +31,10 @@ pub returns-in_default-field_at : goal.returns-in_default-field_at
 returns-in_default-field_at c t counted are empty =
     let time : ℕ = c.in-There.time in
     let time_is : field_at c.args.s.now 0 47 ≡ Field.There time = sym c.field_at.ensures ∙ c.in-There.is in
-    let f = c in
-    let k = f in
     let a = c.args in
     heard_refused t a.q a.events.now counted are a.earliest a.s.now _
     (count_cut (lent a.q a.events.now) a.earliest a.s.now time time_is (omega arith)
-    (sym f.field_at-2.ensures ∙ c.in_default-field_at.is)) c.refused-in_default-field_at.ensures
+    (sym c.field_at-2.ensures ∙ c.in_default-field_at.is)) c.refused-in_default-field_at.ensures
 
 pub reports-requires : goal.reports-requires
 reports-requires c =
@@ -50,9 +46,7 @@ returns c t counted are empty =
     let time : ℕ = c.in-There.time in
     let time_is : field_at c.args.s.now 0 47 ≡ Field.There time = sym c.field_at.ensures ∙ c.in-There.is in
     let count-is : field_at c.args.s.now 47 6 ≡ Field.There c.in-There-field_at.count = sym c.field_at-2.ensures ∙ c.in-There-field_at.is in
-    let n = c in
-    let k = n in
     let a = c.args in
-    heard_gathered t a.q a.events.now counted are a.earliest a.s.now time n.in-There-field_at.count
-    (on_count (lent a.q a.events.now) a.earliest a.s.now time time_is (omega arith) n.in-There-field_at.count count-is)
+    heard_gathered t a.q a.events.now counted are a.earliest a.s.now time c.in-There-field_at.count
+    (on_count (lent a.q a.events.now) a.earliest a.s.now time time_is (omega arith) c.in-There-field_at.count count-is)
     (c.reports.ensures empty)

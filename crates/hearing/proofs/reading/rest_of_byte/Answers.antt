@@ -8,14 +8,9 @@ use Rattle.hearing.proofs.reading.rest_of_byte.Goals as goal
 
 pub returns-in_default : goal.returns-in_default
 returns-in_default c =
-    let byte = c in
-    let start = byte in
-    rest_missing _ start.args.at start.args.w start.requires (omega arith) (sym byte.byte_at.ensures ∙ c.in_default.is)
+    rest_missing _ c.args.at c.args.w c.requires (omega arith) (sym c.byte_at.ensures ∙ c.in_default.is)
 
 pub returns : goal.returns
 returns c =
-    let found = c in
-    let byte = found in
-    let start = byte in
-    rw (shl_exact {a = 1} 1 start.args.w 64 (omega arith) (omega arith), one-mul)
-    (rest_there _ start.args.at start.args.w start.requires (omega arith) _ (sym byte.byte_at.ensures ∙ found.in-There.is))
+    rw (shl_exact {a = 1} 1 c.args.w 64 (omega arith) (omega arith), one-mul)
+    (rest_there _ c.args.at c.args.w c.requires (omega arith) _ (sym c.byte_at.ensures ∙ c.in-There.is))

@@ -22,19 +22,15 @@ pub returns-in_default-field_at : goal.returns-in_default-field_at
 unfolding event_report
 returns-in_default-field_at c =
     let bit_is : let a = c.args in field_at a.s.now a.at 1 ≡ Field.There c.in-There.bit = sym c.field_at.ensures ∙ c.in-There.is in
-    let k = c in
-    rw (bit_is, eq-eqb k.in-There.bit 1 (omega arith), sym c.field_at-2.ensures ∙ c.in_default-field_at.is)
+    rw (bit_is, eq-eqb c.in-There.bit 1 (omega arith), sym c.field_at-2.ensures ∙ c.in_default-field_at.is)
 
 -- the value that was taken has 48 bits
 pub value_word-requires : goal.value_word-requires
 value_word-requires c =
-    let v = c in
-    omega (arith, there_lt _ _ 48 _ (sym v.field_at-2.ensures ∙ v.in-There-field_at.is))
+    omega (arith, there_lt _ _ 48 _ (sym c.field_at-2.ensures ∙ c.in-There-field_at.is))
 
 pub returns : goal.returns
 unfolding event_report
 returns c =
     let bit_is : let a = c.args in field_at a.s.now a.at 1 ≡ Field.There c.in-There.bit = sym c.field_at.ensures ∙ c.in-There.is in
-    let v = c in
-    let k = v in
-    rw (bit_is, eq-eqb k.in-There.bit 1 (omega arith), sym v.field_at-2.ensures ∙ v.in-There-field_at.is, c.value_word.ensures)
+    rw (bit_is, eq-eqb c.in-There.bit 1 (omega arith), sym c.field_at-2.ensures ∙ c.in-There-field_at.is, c.value_word.ensures)

@@ -23,14 +23,13 @@ unfolding next_report import_fault
 returns-then-q-i c =
     let number : ℕ = c.in-There.i in
     let number_is : field_at c.args.s.now c.args.at 6 ≡ Field.There number = sym c.field_at.ensures ∙ c.in-There.is in
-    let k = c in rw (number_is, le-ltb number c.args.q (omega arith))
+    rw (number_is, le-ltb number c.args.q (omega arith))
 
 pub returns-then-i-least : goal.returns-then-i-least
 unfolding next_report import_fault
 returns-then-i-least c =
     let number : ℕ = c.in-There.i in
     let number_is : field_at c.args.s.now c.args.at 6 ≡ Field.There number = sym c.field_at.ensures ∙ c.in-There.is in
-    let k = c in
     let a = c.args in
     rw (number_is, lt-ltb number a.q (omega arith), lt-leb a.least number (omega arith))
 
@@ -39,7 +38,6 @@ unfolding next_report import_fault
 returns c =
     let number : ℕ = c.in-There.i in
     let number_is : field_at c.args.s.now c.args.at 6 ≡ Field.There number = sym c.field_at.ensures ∙ c.in-There.is in
-    let k = c in
     let a = c.args in
     let event : c.is_event.result ≡ is_event (lent a.q a.events.now) number =
     c.is_event.ensures

@@ -1,3 +1,4 @@
+-- One more, or none more, by the entry that is passed.
 use native.Mathlib.Nat.{add-zero}
 use native.Mathlib.Omega.{arith}
 use borrow.Author.Rules.{rules}
@@ -6,12 +7,10 @@ use Rattle.table.specs.Tables.{entry_at, labels_before}
 use Rattle.labels.proofs.counting.counted.Goals.{then-labelled, else-labelled}
 use Rattle.labels.proofs.counting.counted.Goals as goal
 
--- src/counting.rt:26:5
 pub loop-i-init : goal.loop-i-init
 unfolding labels_before
 loop-i-init c = search rules
 
--- src/counting.rt:26:5
 pub loop-i-preserved : goal.loop-i-preserved
 unfolding entry_at
 loop-i-preserved c =

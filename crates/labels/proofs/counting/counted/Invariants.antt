@@ -1,3 +1,4 @@
+-- The loop's invariant: the count is how many of the first i entries have a label.
 use mathlib.Core.Path.{◌≡◌}
 use Prim.Native.Nat.{◌≤◌, ◌-◌}
 use Rattle.table.specs.Tables.{labels_before}

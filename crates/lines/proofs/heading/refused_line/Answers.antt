@@ -4,7 +4,4 @@ use Rattle.lines.proofs.heading.refused_line.Goals as goal
 
 pub returns : goal.returns
 returns c =
-    let fed = c in
-    let numbered = fed in
-    let worded = numbered in
-    search (lays_line, lays_field, lays_last, worded.put-at.ensures, worded.put_word-at.ensures, numbered.put_number-at.ensures, fed.put_byte.ensures)
+    search (lays_line, lays_field, lays_last, c.put-at.ensures, c.put_word-at.ensures, c.put_number-at.ensures, c.put_byte.ensures)

@@ -1,3 +1,4 @@
+-- An entry that is refused refuses the script; one that is read is the next in the table; after n the rules are read.
 use mathlib.Core.Path.{sym, ◌∙◌, ap}
 use native.Mathlib.Omega.{arith}
 use Rattle.kinds.specs.declared.Apart.{Apart}
@@ -5,19 +6,16 @@ use Rattle.kinds.specs.Apart.{sort_of_kind}
 use Rattle.reader.specs.Rules.{ruled_refused, ruled_next, ruled_done}
 use Rattle.reader.proofs.rules.rules.Goals as goal
 
--- src/rules.rt:27:17
 pub returns-in-Refused : goal.returns-in-Refused
 returns-in-Refused c =
     c.refused.ensures
     ∙ sym (ruled_refused c.loop-k.invariant c.loop-k-test.true c.requires.0 _ (sym c.read.ensures ∙ c.in-Refused.is))
 
--- src/rules.rt:24:5
 pub loop-k-preserved : goal.loop-k-preserved
 loop-k-preserved c =
     ruled_next c.loop-k.invariant (omega arith) (omega arith) (omega arith) c.in-Entry.e c.in-Entry.next c.sort_of_kind.result
     (sym c.read.ensures ∙ c.in-Entry.is)
     (c.sort_of_kind.ensures ∙ ap (λ (x : Apart). sort_of_kind x.kind) c.apart_of.ensures)
 
--- src/rules.rt:15:1
 pub returns : goal.returns
 returns c = sym (ruled_done c.loop-k.invariant (omega arith))

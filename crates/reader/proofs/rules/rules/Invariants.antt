@@ -1,3 +1,4 @@
+-- The loop's invariant: the first k entries are read, and stand in the table.
 use Prim.Native.Nat.{◌-◌}
 use Rattle.reader.specs.Rules.{Ruled}
 use Rattle.reader.proofs.rules.rules.Given as goal

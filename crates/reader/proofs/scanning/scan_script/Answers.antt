@@ -6,8 +6,8 @@ use Rattle.reader.specs.Packs.{stage_refused, stage_accepted}
 use Rattle.reader.specs.ScanLaws.{scan_long, scan_no_table, block_begins}
 use Rattle.reader.proofs.scanning.scan_script.Goals as goal
 
-pub returns-then-s-gt4096 : goal.returns-then-s-gt4096
-returns-then-s-gt4096 c = c.refused_scan.ensures ∙ sym (scan_long c.args.s.now c.args.k (omega arith))
+pub returns-then-too_long : goal.returns-then-too_long
+returns-then-too_long c = c.refused_scan.ensures ∙ sym (scan_long c.args.s.now c.args.k (omega arith))
 
 pub labels_from-requires : goal.labels_from-requires
 labels_from-requires c =

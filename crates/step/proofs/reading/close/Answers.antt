@@ -19,9 +19,9 @@ pub returns-in_default : goal.returns-in_default
 unfolding closed
 returns-in_default c = rw (sym c.field_at.ensures ∙ c.in_default.is)
 
-pub returns-then-zeros-ne0 : goal.returns-then-zeros-ne0
+pub returns-then-padded : goal.returns-then-padded
 unfolding closed
-returns-then-zeros-ne0 c = rw (zeros-are (goal.at.returns-then-zeros-ne0 c).In-There, ne_eqb c.in-There.zeros 0 (λ e. omega arith))
+returns-then-padded c = rw (zeros-are (goal.at.returns-then-padded c).In-There, ne_eqb c.in-There.zeros 0 (λ e. omega arith))
 
 pub returns-then-at-w : goal.returns-then-at-w
 unfolding closed

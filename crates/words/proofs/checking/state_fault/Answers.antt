@@ -3,8 +3,8 @@ use native.Mathlib.Omega.{arith}
 use Rattle.words.specs.Checking.{length_decides, words_decide, monitor_decides}
 use Rattle.words.proofs.checking.state_fault.Goals as goal
 
-pub returns-then-state-ne-WORDS : goal.returns-then-state-ne-WORDS
-returns-then-state-ne-WORDS c = length_decides c.args.state.now (λ e. omega arith)
+pub returns-then-wrong_size : goal.returns-then-wrong_size
+returns-then-wrong_size c = length_decides c.args.state.now (λ e. omega arith)
 
 pub returns-in-Refused : goal.returns-in-Refused
 returns-in-Refused c = search words_decide
