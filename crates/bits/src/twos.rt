@@ -6,7 +6,8 @@ ghost use Rattle.bits.specs.Twos.{signed, unsigned};
 pub fn signed(v: u64) -> i64
     ensures { result ≡ signed v }
 {
-    if v < 140737488355328 {
+    let low = v < 140737488355328;
+    if low {
         return v as i64;
     }
     if v < 281474976710656 {
@@ -19,7 +20,8 @@ pub fn signed(v: u64) -> i64
 pub fn unsigned(z: i64) -> u64
     ensures { result ≡ unsigned z }
 {
-    if 0 <= z {
+    let itself = 0 <= z;
+    if itself {
         return z as u64;
     }
     if -281474976710656 <= z {

@@ -82,7 +82,8 @@ pub fn take(state: &mut [u64], s: &[u8], results: &mut [u64]) -> Answer
     }
     let n = state[0];
     let q = state[1];
-    if 128 < n {
+    let crowded = 128 < n;
+    if crowded {
         return Answer::Refused(Refusal::Unsound);
     }
     if 48 < q {

@@ -36,7 +36,8 @@ fn take_entry(state: &mut [u64], told: &[u64], results: &mut [u64], k: usize, ti
     );
     results[k] = judged.outcome;
     state[132 + k] = judged.cell;
-    if judged.outcome == 8 {
+    let done = judged.outcome == 8;
+    if done {
         state[260 + variable] = number_taken(y);
     }
 }

@@ -39,7 +39,8 @@ pub fn before(t: Table, k: usize) -> usize
     ensures { result ≡ labels_before t k }
 {
     t.shaped();
-    if k < 128 {
+    let within = k < 128;
+    if within {
         counted(t, k)
     } else {
         counted(t, 128)

@@ -31,7 +31,8 @@ fn all_printable(text: &[u8]) -> bool
         if byte < 0x20 {
             return false;
         }
-        if 0x7E < byte {
+        let beyond = 0x7E < byte;
+        if beyond {
             return false;
         }
         i += 1;
@@ -46,12 +47,14 @@ fn one(s: &[u8], from: usize) -> Found
     let Field::There(size) = bits::byte_at(s, from) else {
         return Found::Refused(Refusal::Cut);
     };
-    if 32 < size {
+    let too_long = 32 < size;
+    if too_long {
         return Found::Refused(Refusal::Label);
     }
     let size = size as usize;
     let first = from + 1;
-    if s.len() - first < size {
+    let cut = s.len() - first < size;
+    if cut {
         return Found::Refused(Refusal::Cut);
     }
     if !all_printable(&s[first..first + size]) {

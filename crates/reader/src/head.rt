@@ -71,7 +71,8 @@ pub(crate) fn header(s: &[u8]) -> Stage
     let Field::There(n) = bits::field_at(s, 8, 8) else {
         return refused(Refusal::Cut);
     };
-    if n < 1 || Table::ENTRIES < n as usize {
+    let too_many = Table::ENTRIES < n as usize;
+    if n < 1 || too_many {
         return refused(Refusal::EntryCount);
     }
     counts(s, 16, n as usize)

@@ -32,7 +32,8 @@ fn has_label(t: Table, k: usize) -> bool
     requires { t.n ≤ 128 }
     ensures { result ≡ (ltb k t.n && labelled (entry_at t k)) }
 {
-    if k < t.n {
+    let there = k < t.n;
+    if there {
         let slot = t.entries[k];
         let e = slot.entry;
         labels::labelled(e)

@@ -50,7 +50,8 @@ fn play_all<R: Read, W: Write>(source: &mut R, output: &mut W) -> Result<(), Fai
         if let Err(e) = output.write_all(&out[..t.filled]) {
             return Err(Failure::Write(e));
         }
-        if t.over {
+        let over = t.over;
+        if over {
             return Ok(());
         }
         let held = refill(source, ended, &mut input, t.taken, have);

@@ -30,7 +30,8 @@ fn condition(s: &[u8], at: usize, i: usize) -> Heard
     let Field::There(code) = bits::field_at(s, at, 2) else {
         return Heard::Refused(Refusal::StepCut);
     };
-    if 3 <= code {
+    let unknown = 3 <= code;
+    if unknown {
         return Heard::Refused(Refusal::ConditionReport);
     }
     Heard::Report(i, Told::Condition(truth_of(code)), at + 2)

@@ -13,8 +13,8 @@ returns-then-byte-lt32 c =
     let i = c.loop-i.i in
     sym (c.loop-i.invariant.1 ∙ printable_low s i c.loop-i-test.true (omega arith))
 
-pub returns-then-byte-gt126 : goal.returns-then-byte-gt126
-returns-then-byte-gt126 c =
+pub returns-then-beyond : goal.returns-then-beyond
+returns-then-beyond c =
     let s = c.args.text.now in
     let i = c.loop-i.i in
     sym (c.loop-i.invariant.1 ∙ printable_high s i c.loop-i-test.true (omega arith))

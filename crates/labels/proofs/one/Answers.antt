@@ -15,8 +15,8 @@ returns-in_default c =
     let start = c.args in
     sym (ap found_in (label_cut start.s.now (8 * start.from) (sym c.byte_at.ensures ∙ c.in_default.is)))
 
-pub returns-then-size-gt32 : goal.returns-then-size-gt32
-returns-then-size-gt32 c =
+pub returns-then-too_long : goal.returns-then-too_long
+returns-then-too_long c =
     let bytes : List ℕ = c.args.s.now in
     let place : ℕ = c.args.from in
     let long : ℕ = c.in-There.size in
@@ -32,8 +32,8 @@ overflow_add-first c =
     let begun : place < length bytes = length_within bytes place long there in
     omega (arith, begun)
 
-pub overflow_sub-s : goal.overflow_sub-s
-overflow_sub-s c =
+pub overflow_sub-cut : goal.overflow_sub-cut
+overflow_sub-cut c =
     let bytes : List ℕ = c.args.s.now in
     let place : ℕ = c.args.from in
     let long : ℕ = c.in-There.size in
@@ -41,8 +41,8 @@ overflow_sub-s c =
     let begun : place < length bytes = length_within bytes place long there in
     omega (arith, begun)
 
-pub returns-then-s-first : goal.returns-then-s-first
-returns-then-s-first c =
+pub returns-then-cut : goal.returns-then-cut
+returns-then-cut c =
     let bytes : List ℕ = c.args.s.now in
     let place : ℕ = c.args.from in
     let long : ℕ = c.in-There.size in

@@ -9,7 +9,7 @@ use Rattle.replaying.specs.Pieces.{over_stage}
 use Rattle.replay.specs.Refilling.{refilled_piece}
 use Rattle.replay.specs.Playing.{playing_none, playing_turn, playing_read, playing_over}
 use Rattle.replay.proofs.play_all.Given.{Over}
-use Rattle.replay.proofs.play_all.Goals.{Then-t, After-new_player-player, After-player-1}
+use Rattle.replay.proofs.play_all.Goals.{Then-over, After-new_player-player, After-player-1}
 use Rattle.replay.proofs.play_all.Goals as goal
 
 -- nothing is read or printed yet
@@ -23,10 +23,10 @@ loop-turns-init g c =
     }
 
 -- all lines are printed
-pub returns-then-t : goal.returns-then-t
-returns-then-t g c =
+pub returns-then-over : goal.returns-then-over
+returns-then-over g c =
     let turned = c.play-t.ensures in
-    playing_over (playing_turn c.loop-turns.invariant.playing turned c.in_default.ensures.bytes) (over_stage _ (sym turned.done ∙ c.if-t.true))
+    playing_over (playing_turn c.loop-turns.invariant.playing turned c.in_default.ensures.bytes) (over_stage _ (sym turned.done ∙ c.if-over.true))
 
 -- a turn, and then a read
 abbrev pub loop-turns-preserved : goal.loop-turns-preserved
@@ -47,9 +47,9 @@ loop-turns-preserved g c =
 
 -- where the program returns because all lines are printed: what was handed to write, this turn's lines with it, is what document 01 says of the bytes that were
 -- read, if they are fewer than 2^64
-pub all_printed : (g : Over) (c : Then-t g) → let running = c.loop-turns.invariant.playing.running in length (flatten running.read) < 2 ^ 64
+pub all_printed : (g : Over) (c : Then-over g) → let running = c.loop-turns.invariant.playing.running in length (flatten running.read) < 2 ^ 64
     → running.printed ++ take c.play-t.result.filled c.play-t.new.out ≡ replayed (flatten running.read)
-all_printed g c few = running_last c.loop-turns.invariant.playing.running c.play-t.ensures c.if-t.true few
+all_printed g c few = running_last c.loop-turns.invariant.playing.running c.play-t.ensures c.if-over.true few
 
 -- the program begins with nothing read and nothing printed
 pub begins_empty : (g : Over) (c : After-new_player-player g) → ((loop-turns-init g c).playing.running.read ≡ []) × ((loop-turns-init g c).playing.running.printed ≡ [])

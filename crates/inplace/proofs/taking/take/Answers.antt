@@ -10,8 +10,8 @@ returns c = took _ _ refl refl c.heard.ensures
 pub returns-then-state-ne452 : goal.returns-then-state-ne452
 returns-then-state-ne452 c = took_words (λ same. omega arith)
 
-pub returns-then-n-gt128 : goal.returns-then-n-gt128
-returns-then-n-gt128 c = took_entries (omega arith)
+pub returns-then-crowded : goal.returns-then-crowded
+returns-then-crowded c = took_entries (omega arith)
 
 pub returns-then-q-gt48 : goal.returns-then-q-gt48
 returns-then-q-gt48 c = took_imports (omega arith)

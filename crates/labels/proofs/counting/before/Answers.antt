@@ -4,8 +4,8 @@ use native.Mathlib.Omega.{arith}
 use Rattle.labels.specs.Counting.{labels_all}
 use Rattle.labels.proofs.counting.before.Goals as goal
 
-pub returns-else-k-lt128 : goal.returns-else-k-lt128
-returns-else-k-lt128 c =
+pub returns-else-within : goal.returns-else-within
+returns-else-within c =
     let shape = c.shaped.ensures in
     let a = c.args in
-    c.counted-else-k-lt128.ensures ∙ labels_all a.t 128 a.k (omega (arith, shape.entries)) (omega arith)
+    c.counted-else-within.ensures ∙ labels_all a.t 128 a.k (omega (arith, shape.entries)) (omega arith)

@@ -9,7 +9,7 @@ use lib.Dec.{leb}
 use Rattle.bits.specs.declared.Field.{Field}
 use Rattle.bits.specs.Bits.{field_at}
 use Rattle.script.specs.Reader.{header}
-use Rattle.reader.proofs.head.header.Goals.{then-n-lt1-via-then-n-lt1, then-n-lt1-via-else-n-lt1+then-n-gt-ENTRIES}
+use Rattle.reader.proofs.head.header.Goals.{then-n-lt1-via-then-n-lt1, then-n-lt1-via-else-n-lt1+then-too_many}
 use Rattle.reader.proofs.head.header.Goals as goal
 
 pub returns-in_default : goal.returns-in_default
@@ -40,7 +40,7 @@ returns-then-n-lt1 c =
     let format-is : field_at bytes 0 8 ≡ Field.There c.in-There.format = sym c.field_at.ensures ∙ c.in-There.is in
     let format-one : field_at bytes 0 8 ≡ Field.There 1 = format-is ∙ ap Field.There c.if-format-ne1.false in
     let n-is : field_at bytes 8 8 ≡ Field.There n = sym c.field_at-2.ensures ∙ c.in-There-field_at.is in
-    let n_outside : (leb 1 n && leb n 128) ≡ false = elim c.then-n-lt1.branch [ then-n-lt1-via-then-n-lt1 w ↦ rw (lt-leb 1 n (omega arith)) | then-n-lt1-via-else-n-lt1+then-n-gt-ENTRIES w ↦ ap₂ ◌&&◌ (le-leb 1 n (omega arith)) (lt-leb n 128 (omega (arith, ltb-true))) ] in
+    let n_outside : (leb 1 n && leb n 128) ≡ false = elim c.then-n-lt1.branch [ then-n-lt1-via-then-n-lt1 w ↦ rw (lt-leb 1 n (omega arith)) | then-n-lt1-via-else-n-lt1+then-too_many w ↦ ap₂ ◌&&◌ (le-leb 1 n (omega arith)) (lt-leb n 128 (omega (arith, ltb-true))) ] in
     c.refused-then-n-lt1.ensures ∙ rw (format-one, n-is, n_outside)
 
 pub returns : goal.returns

@@ -4,6 +4,6 @@ use borrow.Author.Tests.{lt-ltb}
 use Rattle.table.specs.Tables.{entry_at}
 use Rattle.reader.proofs.scanning.has_label.Goals as goal
 
-pub returns-then-k-t : goal.returns-then-k-t
+pub returns-then-there : goal.returns-then-there
 unfolding entry_at
-returns-then-k-t c = let a = c.args in rw (lt-ltb a.k a.t.n (omega arith)) c.labelled.ensures
+returns-then-there c = let a = c.args in rw (lt-ltb a.k a.t.n (omega arith)) c.labelled.ensures

@@ -17,9 +17,9 @@ pub returns-in_default : goal.returns-in_default
 unfolding condition_report
 returns-in_default c = rw (sym c.field_at.ensures ∙ c.in_default.is)
 
-pub returns-then-code-ge3 : goal.returns-then-code-ge3
+pub returns-then-unknown : goal.returns-then-unknown
 unfolding condition_report
-returns-then-code-ge3 c = rw (code_is (goal.at.returns-then-code-ge3 c).In-There, le-ltb c.in-There.code 3 (omega arith))
+returns-then-unknown c = rw (code_is (goal.at.returns-then-unknown c).In-There, le-ltb c.in-There.code 3 (omega arith))
 
 pub returns : goal.returns
 unfolding condition_report
