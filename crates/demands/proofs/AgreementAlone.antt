@@ -46,12 +46,12 @@ module _ (machine : Machine) (t : Table) (k : ℕ) where
   given_length : AnswersAsDefined machine t → (offered : List (List ℕ)) → length (given_to machine t k offered) ≡ length (history_of t offered)
   unfolding given_to history_of
   given_length answers [] = refl
-  given_length answers (bytes ∷ before) = by (heard t before bytes) refl (given_length answers before)
+  given_length answers (bytes ∷ before) = by _ (heard t before bytes) refl (given_length answers before)
     where
-      by : (g : Got Step) → heard t before bytes ≡ g → length (given_to machine t k before) ≡ length (history_of t before)
-          → length (given_if (reply_to machine t before bytes).answer (giving before bytes) (given_to machine t k before)) ≡ length (grown (history_of t before) g)
-      by (got s end) e same = ap (λ (a : Answer). length (given_if a (giving before bytes) (given_to machine t k before))) (answers before bytes ∙ ap answered e) ∙ ap suc same
-      by (refused r) e same = ap (λ (a : Answer). length (given_if a (giving before bytes) (given_to machine t k before))) (answers before bytes ∙ ap answered e) ∙ same
+      by : (o : Outcome) (g : Got Step) → heard t before bytes ≡ g → length (given_to machine t k before) ≡ length (history_of t before)
+          → length (given_if (reply_to machine t before bytes).answer o (given_to machine t k before)) ≡ length (grown (history_of t before) g)
+      by o (got s end) e same = ap (λ (a : Answer). length (given_if a o (given_to machine t k before))) (answers before bytes ∙ ap answered e) ∙ ap suc same
+      by o (refused r) e same = ap (λ (a : Answer). length (given_if a o (given_to machine t k before))) (answers before bytes ∙ ap answered e) ∙ same
 
   module _ (alike : SameResults machine t) where
     -- once a step is accepted, every accepted step gives what it gives

@@ -44,7 +44,7 @@ same_history t (bytes ∷ before) = by (heard t before bytes) refl (same_history
     by (refused r) e same = same
 
 -- the empty table has no entry, so every step of its monitor gives 29
-nothing_there : (bytes : List ℕ) → step_of (fresh empty_table) bytes ≡ refused_step Refusal.Unsound (fresh empty_table)
+nothing_there : (bytes : List ℕ) → our_machine.step (fresh empty_table) bytes ≡ refused_step Refusal.Unsound (fresh empty_table)
 unfolding step_of unsound the_faults
 nothing_there bytes = refl
 
@@ -53,7 +53,7 @@ pub ours_at_fault : (t : Table) (r : Refusal) → table_fault t ≡ Answer.Refus
 unfolding start_on unsound_table
 ours_at_fault t r bad =
     let start : start_on t ≡ record { answer = Answer.Refused Refusal.Unsound; monitor = fresh empty_table } = ap (λ a. start_reply (as_unsound a) t) bad in
-    record { start = start; steps = λ bytes. ap (λ (x : Started). step_of x.monitor bytes) start ∙ nothing_there bytes ∙ ap (λ (x : Started). refused_step Refusal.Unsound x.monitor) (sym start) }
+    record { start = start; steps = λ bytes. ap (λ (x : Started). our_machine.step x.monitor bytes) start ∙ nothing_there bytes ∙ ap (λ (x : Started). refused_step Refusal.Unsound x.monitor) (sym start) }
 
 module _ (t : Table) (shaped : Shaped t) (good : table_fault t ≡ Answer.Accepted) where
   -- after any strings, the monitor is the one that the history leaves

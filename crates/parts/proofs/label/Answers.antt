@@ -14,8 +14,8 @@ inside bytes k found is = part_inside bytes (ap (λ (x : Label). x.span) is) (la
 
 pub overflow_add-end : goal.overflow_add-end
 overflow_add-end c =
-    let h = inside c.args.s.now c.args.k c.find_label-found.result c.find_label-found.ensures in record { fits = omega arith }
+    let h = inside c.args.s.now _ c.find_label-found.result c.find_label-found.ensures in record { fits = omega arith }
 
 pub slice_bounds-result-end : goal.slice_bounds-result-end
 slice_bounds-result-end c =
-    let h = inside c.args.s.now c.args.k c.find_label-found.result c.find_label-found.ensures in omega arith
+    let h = inside c.args.s.now _ c.find_label-found.result c.find_label-found.ensures in omega arith
