@@ -24,9 +24,9 @@ joined_small x n v h =
     let e : 2 ^ (64 - n + n) ≡ 2 ^ 64 = ap (λ (k : ℕ). 2 ^ k) {x = 64 - n + n} {y = 64} (omega (arith, h)) in
     let high = x * 2 ^ n / 2 ^ n % 2 ^ (64 - n) in
     let shifted : x * 2 ^ n % 2 ^ 64 ≡ high * 2 ^ n =
-        ap (λ (m : ℕ). x * 2 ^ n % m) (sym e ∙ pow-add 2 (64 - n) n)
-        ∙ mod-mul (x * 2 ^ n) (pow_pos (64 - n)) (pow_pos n)
-        ∙ rw (mul-mod_left x (2 ^ n), add-zero) refl in
+    ap (λ (m : ℕ). x * 2 ^ n % m) (sym e ∙ pow-add 2 (64 - n) n)
+    ∙ mod-mul (x * 2 ^ n) (pow_pos (64 - n)) (pow_pos n)
+    ∙ rw (mul-mod_left x (2 ^ n), add-zero) refl in
     rw (one_shifted n h, shifted, ← e) (join_lt (64 - n) n (mod-lt (x * 2 ^ n / 2 ^ n) (pow_pos (64 - n))) (mod-lt v (pow_pos n)))
 
 module _ (x w t v : ℕ) (small : x < 2 ^ 64) (narrow : w ≤ 48) (shift : t ≤ 63) (fits : w + t ≤ 64) where
