@@ -10,10 +10,3 @@ mod window;
 pub use putting::put;
 pub use taking::{byte_at, field_at};
 pub use twos::{signed, unsigned};
-
-// A field that isn't wholly there is an answer of its own.
-#[derive(Clone, Copy)]
-pub enum Field {
-    Missing,
-    There(u64),
-}

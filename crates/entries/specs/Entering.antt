@@ -1,5 +1,5 @@
 -- One entry, read by what is lent of the table so far: the sorts of its entries as numbers, which imports are events, its counts.
-use Rattle.std.specs.Prelude.{Bool, cond, List, ℕ, ◌%◌, eqb, ltb, pos, length}
+use Rattle.std.specs.Prelude.{Bool, cond, List, ℕ, ◌%◌, eqb, ltb, pos, length, Result, Ok, Err}
 use Rattle.refusals.specs.declared.Refusal.{Refusal}
 use Rattle.refusals.specs.Numbering.{unless}
 use Rattle.bits.specs.Twos.{signed}
@@ -10,7 +10,6 @@ use Rattle.kinds.specs.declared.Operand.{Operand}
 use Rattle.kinds.specs.declared.Apart.{Apart}
 use Rattle.kinds.specs.Apart.{apart_of, made_of, wide_of, holding}
 use Rattle.sound.specs.Judged.{judged_by}
-use Rattle.entries.specs.declared.Entered.{Entered}
 
 -- an operand's field, judged; where there is no operand nothing is read
 unfoldable pub operand_by : List ℕ → List Bool → ℕ → ℕ → ℕ → Operand → Reading ℕ
@@ -32,10 +31,10 @@ entry_by sorts events q v k =
     >>= λ kind. operands_by sorts events q v k kind (apart_of (made_of kind 0 0 0 (pos 0)))
 
 -- what was read, as it is handed back
-abbrev pub entered_of : Got Entry → Entered
-entered_of (got e next) = Entered.Entry e next
-entered_of (refused r) = Entered.Refused r
+abbrev pub entered_of : Got Entry → Result (Entry × ℕ) Refusal
+entered_of (got e next) = Ok (e, next)
+entered_of (refused r) = Err r
 
 -- "Number 1 comes before all reading"
-unfoldable pub entered : List ℕ → List Bool → ℕ → ℕ → ℕ → List ℕ → ℕ → Entered
+unfoldable pub entered : List ℕ → List Bool → ℕ → ℕ → ℕ → List ℕ → ℕ → Result (Entry × ℕ) Refusal
 entered sorts events q v k s at = entered_of (cond (ltb limits.script (length s)) (refused Refusal.TooLong) (entry_by sorts events q v k s at))

@@ -1,5 +1,5 @@
 -- One report of a step as it is handed back: its import, and the word of what it tells of it.
-use Rattle.std.specs.Prelude.{◌≡◌, refl, ℕ, suc, ◌+◌, ◌-◌, ◌<◌, ◌≤◌, ◌^◌}
+use Rattle.std.specs.Prelude.{◌≡◌, refl, ℕ, suc, ◌+◌, ◌-◌, ◌<◌, ◌≤◌, ◌^◌, Result, Ok, Err}
 use Rattle.std.proofs.Common.{arith, lt-ltb, le-ltb}
 use Rattle.values.specs.declared.Number.{Number}
 use Rattle.refusals.specs.declared.Refusal.{Refusal}
@@ -10,12 +10,12 @@ use Rattle.words.specs.Words.{zero_word, number_word, told_word}
 use Rattle.hearing.specs.declared.Next.{Next}
 
 -- what was read, as it is handed back
-abbrev pub next_of : Got Report → Next
-next_of (got r next) = Next.Report r.imported (told_word r.told) next
-next_of (refused r) = Next.Refused r
+abbrev pub next_of : Got Report → Result Next Refusal
+next_of (got r next) = Ok (record { imported = r.imported; word = told_word r.told; next = next })
+next_of (refused r) = Err r
 
 -- the refusal that was handed back
-pub next_refused : (m : Got Report) (r : Refusal) → next_of m ≡ Next.Refused r → m ≡ refused r
+pub next_refused : (m : Got Report) (r : Refusal) → next_of m ≡ Err r → m ≡ refused r
 next_refused (got report next) r e = let z : ◌≡◌ {A = ℕ} 0 1 = cc in absurd (omega arith)
 next_refused (refused q) r e = cc
 
@@ -27,11 +27,12 @@ pub record Reported (m : Got Report) (i word next : ℕ) : Type 0 where
   pub tells : told_word report.told ≡ word
 
 -- the report that was handed back
-pub next_report_lem : (m : Got Report) (i word next : ℕ) → next_of m ≡ Next.Report i word next → Reported m i word next
-next_report_lem (got r end) i word next e =
-    let ends : end ≡ next = cc in
-    record { report = r; is = rw ends refl; imports = cc; tells = cc }
-next_report_lem (refused q) i word next e = let z : ◌≡◌ {A = ℕ} 0 1 = cc in absurd (omega arith)
+pub next_report_lem : (m : Got Report) (n : Next) → next_of m ≡ Ok n → Reported m n.imported n.word n.next
+next_report_lem (got r end) n e =
+    let same : record { imported = r.imported; word = told_word r.told; next = end } ≡ n = cc in
+    let ends : end ≡ n.next = ap (λ (x : Next). x.next) same in
+    record { report = r; is = rw ends refl; imports = ap (λ (x : Next). x.imported) same; tells = ap (λ (x : Next). x.word) same }
+next_report_lem (refused q) n e = let z : ◌≡◌ {A = ℕ} 0 1 = cc in absurd (omega arith)
 
 -- 48 bits below 2^47 stand for themselves
 pub value_low : (v word : ℕ) → word ≡ zero_word + v → v < 2 ^ 47 → word ≡ number_word (Number.Whole (signed v))

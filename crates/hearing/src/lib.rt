@@ -5,18 +5,19 @@ mod reading;
 mod report;
 
 pub use reading::hear;
-use refusals::{Answer, Refusal};
+use refusals::Refusal;
 
 // A step that was heard: its time, or the refusal.
 #[derive(Clone, Copy)]
 pub struct Heading {
-    pub answer: Answer,
+    pub answer: Result<(), Refusal>,
     pub time: u64,
 }
 
-// The next report: its import, the word of what it tells of it, and the bit after it; or the refusal.
+// The next report: its import, the word of what it tells of it, and the bit after it.
 #[derive(Clone, Copy)]
-enum Next {
-    Refused(Refusal),
-    Report(usize, u64, usize),
+struct Next {
+    imported: usize,
+    word: u64,
+    next: usize,
 }

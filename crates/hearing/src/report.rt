@@ -9,7 +9,6 @@ ghost use Rattle.hearing.specs.Lent.{lent};
 ghost use Rattle.hearing.specs.Nexts.{next_of};
 
 use crate::Next;
-use bits::Field;
 use refusals::Refusal;
 
 // "00 false, 01 true, 10 undefined"
@@ -37,39 +36,51 @@ fn value_word(v: u64) -> u64
 }
 
 // "for a condition 2 bits (00 false, 01 true, 10 undefined)"; 11 is refused
-fn condition(s: &[u8], at: usize, i: usize) -> Next
+fn condition(s: &[u8], at: usize, i: usize) -> Result<Next, Refusal>
     requires { at ≤ 65536 }
     ensures { result ≡ next_of (about i (condition_report s.now at)) }
 {
-    let Field::There(code) = bits::field_at(s, at, 2) else {
-        return Next::Refused(Refusal::StepCut);
+    let Some(code) = bits::field_at(s, at, 2) else {
+        return Err(Refusal::StepCut);
     };
     if 3 <= code {
-        return Next::Refused(Refusal::ConditionReport);
+        return Err(Refusal::ConditionReport);
     }
-    Next::Report(i, truth_word(code), at + 2)
+    Ok(Next {
+        imported: i,
+        word: truth_word(code),
+        next: at + 2,
+    })
 }
 
 // "for an event 1 bit and, if that is 1, a 48-bit value"
-fn event(s: &[u8], at: usize, i: usize) -> Next
+fn event(s: &[u8], at: usize, i: usize) -> Result<Next, Refusal>
     requires { at ≤ 65536 }
     ensures { result ≡ next_of (about i (event_report s.now at)) }
 {
-    let Field::There(bit) = bits::field_at(s, at, 1) else {
-        return Next::Refused(Refusal::StepCut);
+    let Some(bit) = bits::field_at(s, at, 1) else {
+        return Err(Refusal::StepCut);
     };
     let first = at + 1;
     if bit != 1 {
-        return Next::Report(i, 4, first);
+        return Ok(Next {
+        imported: i,
+        word: 4,
+        next: first,
+    });
     }
-    let Field::There(value) = bits::field_at(s, first, 48) else {
-        return Next::Refused(Refusal::StepCut);
+    let Some(value) = bits::field_at(s, first, 48) else {
+        return Err(Refusal::StepCut);
     };
-    Next::Report(i, value_word(value), first + 48)
+    Ok(Next {
+        imported: i,
+        word: value_word(value),
+        next: first + 48,
+    })
 }
 
 // What follows the number of import i, for an event and for a condition.
-fn report(s: &[u8], at: usize, i: usize, occurs: bool) -> Next
+fn report(s: &[u8], at: usize, i: usize, occurs: bool) -> Result<Next, Refusal>
     requires { at ≤ 65536 }
     ensures { result ≡ next_of (about i (report_for occurs s.now at)) }
 {
@@ -90,19 +101,19 @@ fn is_event(events: &[u64], i: usize) -> bool
 }
 
 // The next report, read by what is lent of the table: how many imports it has, and which are events.
-pub(crate) fn next_report(s: &[u8], at: usize, q: usize, least: usize, events: &[u64]) -> Next
+pub(crate) fn next_report(s: &[u8], at: usize, q: usize, least: usize, events: &[u64]) -> Result<Next, Refusal>
     requires { at ≤ 4096 }
     ensures { result ≡ next_of (next_report (lent q events.now) least s.now at) }
 {
-    let Field::There(i) = bits::field_at(s, at, 6) else {
-        return Next::Refused(Refusal::StepCut);
+    let Some(i) = bits::field_at(s, at, 6) else {
+        return Err(Refusal::StepCut);
     };
     let i = i as usize;
     if q <= i {
-        return Next::Refused(Refusal::StepImport);
+        return Err(Refusal::StepImport);
     }
     if i < least {
-        return Next::Refused(Refusal::ImportOrder);
+        return Err(Refusal::ImportOrder);
     }
     report(s, at + 6, i, is_event(events, i))
 }

@@ -1,3 +1,4 @@
 -- What each refusal's number is, and which of several faults decides.
+pub mod Answers
 pub mod Numbering
 pub mod Accepting

@@ -4,7 +4,7 @@
 ghost use Rattle.std.specs.Prelude.{◌≡◌};
 ghost use Rattle.refusals.specs.Numbering.{number_of};
 
-#[derive(Clone, Copy)]
+#[derive(Clone, Copy, Debug, PartialEq, Eq)]
 pub enum Refusal {
     // 1: script over 4,096 bytes
     TooLong,
@@ -58,13 +58,6 @@ pub enum Refusal {
     Unsound,
     // 30: no such entry, or, for a label, not an alarm or property
     NoEntry,
-}
-
-// What a check answers.
-#[derive(Clone, Copy)]
-pub enum Answer {
-    Accepted,
-    Refused(Refusal),
 }
 
 // The number that document 01 gives a refusal.

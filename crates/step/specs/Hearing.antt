@@ -1,6 +1,6 @@
 -- One report of a step: what it is handed back as, what is known of it, and that the reports are one after another.
-use Rattle.std.specs.Prelude.{Bool, true, false, List, [], ◌∷◌, ◌++◌, ◌≡◌, refl, ℕ, suc, ◌+◌, ◌<◌, ◌≤◌, eqb, ltb, leb}
-use Rattle.std.proofs.Common.{sym, arith, ltb-true, leb-true}
+use Rattle.std.specs.Prelude.{Bool, true, false, List, [], ◌∷◌, ◌++◌, ◌≡◌, refl, ℕ, suc, ◌+◌, ◌<◌, ◌≤◌, eqb, ltb, leb, Result, Ok, Err}
+use Rattle.std.proofs.Common.{sym, ap, arith, ltb-true, leb-true}
 use Rattle.refusals.specs.declared.Refusal.{Refusal}
 use Rattle.refusals.specs.Numbering.{unless}
 use Rattle.refusals.specs.Accepting.{unless_accepted, accepted_first, accepted_second}
@@ -23,24 +23,21 @@ unfoldable pub next_report : Table → ℕ → Reading Report
 next_report t least = field Refusal.StepCut 6 (import_fault t least) >>= λ i s at. about i (report_for (is_event t i) s at)
 
 -- what was read, as it is handed back
-abbrev pub heard_of : Got Report → Heard
-heard_of (got r next) = Heard.Report r.imported r.told next
-heard_of (refused r) = Heard.Refused r
+abbrev pub heard_of : Got Report → Result Heard Refusal
+heard_of (got r next) = Ok (record { imported = r.imported; told = r.told; next = next })
+heard_of (refused r) = Err r
 
 -- the refusal that was handed back
-pub heard_refused : (m : Got Report) (r : Refusal) → heard_of m ≡ Heard.Refused r → m ≡ refused r
+pub heard_refused : (m : Got Report) (r : Refusal) → heard_of m ≡ Err r → m ≡ refused r
 heard_refused (got report next) r e = let z : ◌≡◌ {A = ℕ} 0 1 = cc in absurd (omega arith)
 heard_refused (refused q) r e = cc
 
 -- the report that was handed back
-pub heard_report : (m : Got Report) (i : ℕ) (told : Told) (next : ℕ) → heard_of m ≡ Heard.Report i told next
-    → m ≡ got (record { imported = i; told = told }) next
-heard_report (got report end) i told next e =
-    let same : report.imported ≡ i = cc in
-    let news : report.told ≡ told = cc in
-    let ends : end ≡ next = cc in
-    rw (← same, ← news, ← ends) refl
-heard_report (refused q) i told next e = let z : ◌≡◌ {A = ℕ} 0 1 = cc in absurd (omega arith)
+pub heard_report : (m : Got Report) (h : Heard) → heard_of m ≡ Ok h → m ≡ got (record { imported = h.imported; told = h.told }) h.next
+heard_report (got report end) h e =
+    let same : record { imported = report.imported; told = report.told; next = end } ≡ h = cc in
+    ap (λ (x : Heard). got (record { imported = x.imported; told = x.told }) x.next) same
+heard_report (refused q) h e = let z : ◌≡◌ {A = ℕ} 0 1 = cc in absurd (omega arith)
 
 -- a value takes 48 bits, where there is one
 value_ends : (b : Bool) (s : List ℕ) (at : ℕ) → Gives (event_value b s at) (λ told next. next ≤ at + 48)

@@ -5,7 +5,7 @@ mod reading;
 mod report;
 
 pub use reading::read;
-use refusals::{Answer, Refusal};
+use refusals::Refusal;
 use table::Table;
 use values::{Number, Truth};
 
@@ -32,15 +32,16 @@ pub struct TruthSlot {
 // A step that was read: its time, what it tells of each import, and the last reported values after it; or the refusal.
 #[derive(Clone, Copy)]
 pub struct Taken {
-    pub answer: Answer,
+    pub answer: Result<(), Refusal>,
     pub time: u64,
     pub told: [ToldSlot; Table::IMPORTS],
     pub reported: [TruthSlot; Table::IMPORTS],
 }
 
-// A report that was heard: its import, what it tells of it, and the bit after it; or the refusal.
+// A report that was heard: its import, what it tells of it, and the bit after it.
 #[derive(Clone, Copy)]
-enum Heard {
-    Refused(Refusal),
-    Report(usize, Told, usize),
+struct Heard {
+    imported: usize,
+    told: Told,
+    next: usize,
 }

@@ -5,7 +5,6 @@ ghost use Rattle.step.specs.Reader.{truth_code, condition_report, event_report, 
 ghost use Rattle.step.specs.Hearing.{heard_of, about, next_report};
 
 use crate::{Heard, Told};
-use bits::Field;
 use refusals::Refusal;
 use values::{Number, Truth};
 
@@ -23,44 +22,52 @@ fn truth_of(code: u64) -> Truth
 }
 
 // "for a condition 2 bits (00 false, 01 true, 10 undefined)"; 11 is refused
-fn condition(s: &[u8], at: usize, i: usize) -> Heard
+fn condition(s: &[u8], at: usize, i: usize) -> Result<Heard, Refusal>
     requires { at ≤ 65536 }
     ensures { result ≡ heard_of (about i (condition_report s.now at)) }
 {
-    let Field::There(code) = bits::field_at(s, at, 2) else {
-        return Heard::Refused(Refusal::StepCut);
+    let Some(code) = bits::field_at(s, at, 2) else {
+        return Err(Refusal::StepCut);
     };
     let unknown = 3 <= code;
     if unknown {
-        return Heard::Refused(Refusal::ConditionReport);
+        return Err(Refusal::ConditionReport);
     }
-    Heard::Report(i, Told::Condition(truth_of(code)), at + 2)
+    Ok(Heard {
+        imported: i,
+        told: Told::Condition(truth_of(code)),
+        next: at + 2,
+    })
 }
 
 // "for an event 1 bit and, if that is 1, a 48-bit value"
-fn event(s: &[u8], at: usize, i: usize) -> Heard
+fn event(s: &[u8], at: usize, i: usize) -> Result<Heard, Refusal>
     requires { at ≤ 65536 }
     ensures { result ≡ heard_of (about i (event_report s.now at)) }
 {
-    let Field::There(bit) = bits::field_at(s, at, 1) else {
-        return Heard::Refused(Refusal::StepCut);
+    let Some(bit) = bits::field_at(s, at, 1) else {
+        return Err(Refusal::StepCut);
     };
     let first = at + 1;
     if bit != 1 {
-        return Heard::Report(i, Told::Event(Number::Undefined), first);
+        return Ok(Heard {
+            imported: i,
+            told: Told::Event(Number::Undefined),
+            next: first,
+        });
     }
-    let Field::There(value) = bits::field_at(s, first, 48) else {
-        return Heard::Refused(Refusal::StepCut);
+    let Some(value) = bits::field_at(s, first, 48) else {
+        return Err(Refusal::StepCut);
     };
-    Heard::Report(
-        i,
-        Told::Event(Number::Whole(bits::signed(value))),
-        first + 48,
-    )
+    Ok(Heard {
+        imported: i,
+        told: Told::Event(Number::Whole(bits::signed(value))),
+        next: first + 48,
+    })
 }
 
 // What follows the number of import i, for an event and for a condition.
-fn report(s: &[u8], at: usize, i: usize, of_event: bool) -> Heard
+fn report(s: &[u8], at: usize, i: usize, of_event: bool) -> Result<Heard, Refusal>
     requires { at ≤ 65536 }
     ensures { result ≡ heard_of (about i (report_for of_event s.now at)) }
 {
@@ -81,19 +88,19 @@ fn is_event(events: &[bool], i: usize) -> bool
 }
 
 // The next report, read by what is lent of the table: how many imports it has, and which are events.
-pub(crate) fn next_report(s: &[u8], at: usize, q: usize, least: usize, events: &[bool]) -> Heard
+pub(crate) fn next_report(s: &[u8], at: usize, q: usize, least: usize, events: &[bool]) -> Result<Heard, Refusal>
     requires { at ≤ 4096 }
     ensures { (t : tables.Table) → t.q ≡ q → t.events ≡ events.now → result ≡ heard_of (next_report t least s.now at) }
 {
-    let Field::There(i) = bits::field_at(s, at, 6) else {
-        return Heard::Refused(Refusal::StepCut);
+    let Some(i) = bits::field_at(s, at, 6) else {
+        return Err(Refusal::StepCut);
     };
     let i = i as usize;
     if q <= i {
-        return Heard::Refused(Refusal::StepImport);
+        return Err(Refusal::StepImport);
     }
     if i < least {
-        return Heard::Refused(Refusal::ImportOrder);
+        return Err(Refusal::ImportOrder);
     }
     report(s, at + 6, i, is_event(events, i))
 }

@@ -10,23 +10,23 @@ use Rattle.labels.specs.Passed.{passed_wanted, passed_other, passed_refused, pas
 use Rattle.labels.proofs.read.Goals.{then-j-wanted, else-j-wanted}
 use Rattle.labels.proofs.read.Goals as goal
 
-pub returns-in-Refused : goal.returns-in-Refused
-returns-in-Refused c =
+pub returns-in-Err : goal.returns-in-Err
+returns-in-Err c =
     let s = c.args.s.now in
     let loop = c.loop-j in
-    let here = found_refused s loop.at c.in-Refused.refusal (sym c.one.ensures ∙ c.in-Refused.is) in
+    let here = found_refused s loop.at c.in-Err.refusal (sym c.one.ensures ∙ c.in-Err.is) in
     c.no_label.ensures ∙ sym (passed_refused loop.invariant c.loop-j-test.true here)
 
 pub overflow_add-at : goal.overflow_add-at
 overflow_add-at c =
-    let taken : (label c.args.s.now (8 * c.loop-j.at) ≡ got c.in-At.text (8 * (c.in-At.text.from + c.in-At.text.size))) × (c.in-At.text.from + c.in-At.text.size ≤ length c.args.s.now) = found_at c.args.s.now c.loop-j.at c.in-At.text
-    (sym c.one.ensures ∙ c.in-At.is) in
+    let taken : (label c.args.s.now (8 * c.loop-j.at) ≡ got c.in-Ok.text (8 * (c.in-Ok.text.from + c.in-Ok.text.size))) × (c.in-Ok.text.from + c.in-Ok.text.size ≤ length c.args.s.now) = found_at c.args.s.now c.loop-j.at c.in-Ok.text
+    (sym c.one.ensures ∙ c.in-Ok.is) in
     omega (arith, taken.1)
 
 pub loop-j-preserved : goal.loop-j-preserved
 loop-j-preserved c =
-    let taken : (label c.args.s.now (8 * c.loop-j.at) ≡ got c.in-At.text (8 * (c.in-At.text.from + c.in-At.text.size))) × (c.in-At.text.from + c.in-At.text.size ≤ length c.args.s.now) = found_at c.args.s.now c.loop-j.at c.in-At.text
-    (sym c.one.ensures ∙ c.in-At.is) in
+    let taken : (label c.args.s.now (8 * c.loop-j.at) ≡ got c.in-Ok.text (8 * (c.in-Ok.text.from + c.in-Ok.text.size))) × (c.in-Ok.text.from + c.in-Ok.text.size ≤ length c.args.s.now) = found_at c.args.s.now c.loop-j.at c.in-Ok.text
+    (sym c.one.ensures ∙ c.in-Ok.is) in
     let passed = c.loop-j.invariant in
     let more = c.loop-j-test.true in
     let here = taken.0 in

@@ -10,21 +10,21 @@ use Rattle.hearing.proofs.reading.reports.Goals as goal
 pub loop-left-init : goal.loop-left-init
 loop-left-init c = gathers_none _ _ _ _
 
-pub returns-in-Refused : goal.returns-in-Refused
-returns-in-Refused c empty =
+pub returns-in-Err : goal.returns-in-Err
+returns-in-Err c empty =
     let report-is : let a = c.args in next_of (next_report (lent a.q a.events.now) c.loop-left.least a.s.now c.loop-left.at) ≡ c.next_report.result = sym c.next_report.ensures in
-    gathers_stops c.loop-left.invariant (omega arith) _ (next_refused _ _ (report-is ∙ c.in-Refused.is)) empty
+    gathers_stops c.loop-left.invariant (omega arith) _ (next_refused _ _ (report-is ∙ c.in-Err.is)) empty
 
 pub overflow_add-least : goal.overflow_add-least
 overflow_add-least c =
     let report-is : let a = c.args in next_of (next_report (lent a.q a.events.now) c.loop-left.least a.s.now c.loop-left.at) ≡ c.next_report.result = sym c.next_report.ensures in
-    let heard : let a = c.args in Reported (next_report (lent a.q a.events.now) c.loop-left.least a.s.now c.loop-left.at) c.in-Report.i c.in-Report.word c.in-Report.next = next_report_lem _ _ _ _ (report-is ∙ c.in-Report.is) in
+    let heard : let a = c.args in Reported (next_report (lent a.q a.events.now) c.loop-left.least a.s.now c.loop-left.at) c.in-Ok.report.imported c.in-Ok.report.word c.in-Ok.report.next = next_report_lem _ _ (report-is ∙ c.in-Ok.is) in
     omega (arith, ((next_rising _ _ _ _).told _ _ heard.is).narrow, heard.imports)
 
 pub loop-left-preserved : goal.loop-left-preserved
 loop-left-preserved c =
     let report-is : let a = c.args in next_of (next_report (lent a.q a.events.now) c.loop-left.least a.s.now c.loop-left.at) ≡ c.next_report.result = sym c.next_report.ensures in
-    let heard : let a = c.args in Reported (next_report (lent a.q a.events.now) c.loop-left.least a.s.now c.loop-left.at) c.in-Report.i c.in-Report.word c.in-Report.next = next_report_lem _ _ _ _ (report-is ∙ c.in-Report.is) in
+    let heard : let a = c.args in Reported (next_report (lent a.q a.events.now) c.loop-left.least a.s.now c.loop-left.at) c.in-Ok.report.imported c.in-Ok.report.word c.in-Ok.report.next = next_report_lem _ _ (report-is ∙ c.in-Ok.is) in
     gathers_more c.loop-left.invariant (omega arith) heard c.keep.ensures (omega arith) (omega arith) (omega arith)
 
 pub returns : goal.returns

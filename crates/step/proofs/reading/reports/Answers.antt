@@ -10,28 +10,28 @@ use Rattle.step.proofs.reading.reports.Goals as goal
 pub loop-left-init : goal.loop-left-init
 loop-left-init c = heard_none c.args.t c.args.count c.args.earlier c.args.s.now (omega arith)
 
-pub returns-in-Refused : goal.returns-in-Refused
-returns-in-Refused c =
+pub returns-in-Err : goal.returns-in-Err
+returns-in-Err c =
     taken_whole c.args.earlier c.refused.ensures
-    (next_stops c.loop-left.invariant (omega arith) c.args.time _ (heard_refused _ _ (sym (c.next_report.ensures c.args.t refl refl) ∙ c.in-Refused.is)))
+    (next_stops c.loop-left.invariant (omega arith) c.args.time _ (heard_refused _ _ (sym (c.next_report.ensures c.args.t refl refl) ∙ c.in-Err.is)))
 
 pub overflow_add-least : goal.overflow_add-least
 overflow_add-least c =
-    omega (arith, ((next_rising _ _ _ _).told _ _ (heard_report _ _ _ _ (sym (c.next_report.ensures c.args.t refl refl) ∙ c.in-Report.is))).narrow)
+    omega (arith, ((next_rising _ _ _ _).told _ _ (heard_report _ _ (sym (c.next_report.ensures c.args.t refl refl) ∙ c.in-Ok.is))).narrow)
 
 pub loop-left-preserved : goal.loop-left-preserved
 loop-left-preserved c =
     let so_far = c.loop-left.invariant in
-    let heard = heard_report _ _ _ _ (sym (c.next_report.ensures c.args.t refl refl) ∙ c.in-Report.is) in
+    let heard = heard_report _ _ (sym (c.next_report.ensures c.args.t refl refl) ∙ c.in-Ok.is) in
     elim c.if-i-lt-IMPORTS.branch [
       | then-i-lt-IMPORTS w ↦ next_stored so_far (omega arith) _ _ heard refl refl refl w.told-is w.reported-is w.reported_now.ensures
       | else-i-lt-IMPORTS w ↦ next_past so_far (omega arith) _ _ heard refl refl refl (omega arith) w.told-is w.reported-is
     ]
 
-pub returns-in-Refused-close : goal.returns-in-Refused-close
-returns-in-Refused-close c =
-    taken_whole c.args.earlier c.refused-in-Refused-close.ensures
-    (end_refused c.loop-left.invariant c.args.time (omega arith) _ (sym c.close.ensures ∙ c.in-Refused-close.is))
+pub returns-in-Err-close : goal.returns-in-Err-close
+returns-in-Err-close c =
+    taken_whole c.args.earlier c.refused-in-Err-close.ensures
+    (end_refused c.loop-left.invariant c.args.time (omega arith) _ (sym c.close.ensures ∙ c.in-Err-close.is))
 
-pub returns-in-Accepted : goal.returns-in-Accepted
-returns-in-Accepted c = sym (end_accepted c.loop-left.invariant c.args.time (omega arith) (sym c.close.ensures ∙ c.in-Accepted.is))
+pub returns-in-Ok-close : goal.returns-in-Ok-close
+returns-in-Ok-close c = sym (end_accepted c.loop-left.invariant c.args.time (omega arith) (sym c.close.ensures ∙ c.in-Ok-close.is))
