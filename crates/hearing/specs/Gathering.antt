@@ -71,7 +71,7 @@ pub record Gathered (t : Table) (count : ℕ) (s : List ℕ) (answer : Answer) (
   pub told : (before : List TruthSlot) (time : ℕ) → answer ≡ Ok tt → words ≡ told_words (taken_of before (after_count t time count s)).told
 
 -- a refusal is no acceptance
-pub no_acceptance : {X : Type 0} (r : Refusal) → Err r ≡ Ok tt → X
+pub no_acceptance : {X : Type 0} (r : Refusal) → ◌≡◌ {A = Answer} (Err r) (Ok tt) → X
 no_acceptance r e = absurd (let z : ◌≡◌ {A = ℕ} 0 1 = cc e in omega arith)
 
 -- nothing was reported before

@@ -1,6 +1,6 @@
 -- One report of a step as it is handed back: its import, and the word of what it tells of it.
 use Rattle.std.specs.Prelude.{◌≡◌, refl, ℕ, suc, ◌+◌, ◌-◌, ◌<◌, ◌≤◌, ◌^◌, Result, Ok, Err}
-use Rattle.std.proofs.Common.{arith, lt-ltb, le-ltb}
+use Rattle.std.proofs.Common.{ap, arith, lt-ltb, le-ltb}
 use Rattle.values.specs.declared.Number.{Number}
 use Rattle.refusals.specs.declared.Refusal.{Refusal}
 use Rattle.bits.specs.Reading.{Got, got, refused}

@@ -55,7 +55,7 @@ entered_refused (got e next) r h = let z : ◌≡◌ {A = ℕ} 0 1 = cc in absur
 entered_refused (refused q) r h = cc
 
 entered_entry : (m : Got Entry) (e : Entry) (next : ℕ) → entered_of m ≡ Ok (e, next) → m ≡ got e next
-entered_entry (got d last) e next h = cc
+entered_entry (got d last) e next h = let same : ◌≡◌ {A = Entry × ℕ} (d, last) (e, next) = cc in ap (λ (p : Entry × ℕ). got p.0 p.1) same
 entered_entry (refused q) e next h = let z : ◌≡◌ {A = ℕ} 0 1 = cc in absurd (omega arith)
 
 module _ {s : List ℕ} {from : ℕ} {t table : Table} {sorts : List ℕ} {at k : ℕ} (so_far : Ruled s from t table sorts at k) (more : k < t.n) where

@@ -13,8 +13,8 @@ returns-in-Err c =
 
 pub loop-k-preserved : goal.loop-k-preserved
 loop-k-preserved c =
-    ruled_next c.loop-k.invariant (omega arith) (omega arith) (omega arith) c.in-Entry.e c.in-Entry.next c.sort_of_kind.result
-    (sym c.read.ensures ∙ c.in-Entry.is)
+    ruled_next c.loop-k.invariant (omega arith) (omega arith) (omega arith) c.in-Ok.e c.in-Ok.next c.sort_of_kind.result
+    (sym c.read.ensures ∙ c.in-Ok.is)
     (c.sort_of_kind.ensures ∙ ap (λ (x : Apart). sort_of_kind x.kind) c.apart_of.ensures)
 
 pub returns : goal.returns
