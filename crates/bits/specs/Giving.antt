@@ -33,7 +33,7 @@ gives_onward {m = refused r} h = gives_refused
 -- a value that is judged, and then another reading
 gives_judged : {A B : Type 0} (answer : Answer) (a : A) (next : ℕ) (f : A → ℕ → Got B) {P : B → ℕ → Type 0}
     → (answer ≡ Ok tt → Gives (f a next) P) → Gives (onward (judged answer a next) f) P
-gives_judged (Ok tt) a next f h = h refl
+gives_judged (Ok _) a next f h = h refl
 gives_judged (Err r) a next f h = gives_refused
 
 -- what a field's answer leads to, and then another reading

@@ -37,7 +37,7 @@ abbrev pub ◌>>=◌ : {A B : Type 0} → Reading A → (A → Reading B) → Re
 
 -- a value that was read is kept unless it is refused
 abbrev pub judged : {A : Type 0} → Answer → A → ℕ → Got A
-judged (Ok tt) a next = got a next
+judged (Ok _) a next = got a next
 judged (Err r) a next = refused r
 
 -- a number that is refused stops all that follows

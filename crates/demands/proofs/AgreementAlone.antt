@@ -63,7 +63,7 @@ module _ (machine : Machine) (t : Table) (k : ℕ) where
       where
         by : (a : Answer) → (reply_to machine t before bytes).answer ≡ a → given_to machine t k before ≡ replicate (length (given_to machine t k before)) (giving first step)
             → given_if a (giving before bytes) (given_to machine t k before) ≡ replicate (length (given_if a (giving before bytes) (given_to machine t k before))) (giving first step)
-        by (Ok tt) e same = λ i. ap (λ (results : List Slot). result_in results k) (alike before first bytes step e accepted) i ∷ same i
+        by (Ok _) e same = λ i. ap (λ (results : List Slot). result_in results k) (alike before first bytes step e accepted) i ∷ same i
         by (Err r) e same = same
 
     -- so two streams of as many accepted steps are given the same
@@ -76,7 +76,7 @@ module _ (machine : Machine) (t : Table) (k : ℕ) where
             → (length (given_to machine t k before) ≡ length (given_to machine t k b) → given_to machine t k before ≡ given_to machine t k b)
             → length (given_if a (giving before bytes) (given_to machine t k before)) ≡ length (given_to machine t k b)
             → given_if a (giving before bytes) (given_to machine t k before) ≡ given_to machine t k b
-        by (Ok tt) e earlier same =
+        by (Ok _) e earlier same =
             (λ i. giving before bytes ∷ all_alike before bytes e before i)
             ∙ ap (λ (n : ℕ). replicate n (giving before bytes)) same
             ∙ sym (all_alike before bytes e b)

@@ -22,7 +22,7 @@ ShowsTheLeast reacher = (t : Table) (k : ℕ) → ReachReply t k (reach_fault t 
 
 -- a result is kept where the step was accepted
 abbrev pub given_if : Answer → Outcome → List Outcome → List Outcome
-given_if (Ok tt) o earlier = o ∷ earlier
+given_if (Ok _) o earlier = o ∷ earlier
 given_if (Err r) o earlier = earlier
 
 -- what a monitor gave a rule at every step that it accepted, from a fresh start; the latest first

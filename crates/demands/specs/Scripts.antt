@@ -58,7 +58,7 @@ reply_got (refused r) t e = let answer = ap (λ (x : Script). x.answer) e in let
 -- a write that filled bytes was accepted, and filled the script
 reply_accepted : (a : Answer) (script destination : List ℕ) (size : ℕ) → written_reply a (length script) ≡ filled size
     → (a ≡ Ok tt) × (take size (written_bytes a script destination) ≡ script)
-reply_accepted (Ok tt) script destination size e =
+reply_accepted (Ok _) script destination size e =
     let all : size ≡ length script = sym (ap (λ (x : Written). x.size) e) in
     (refl, ap (λ (n : ℕ). take n (script ++ drop (length script) destination)) all ∙ take-append_seam script (drop (length script) destination))
 reply_accepted (Err r) script destination size e = let answer = ap (λ (x : Written). x.answer) e in let z : ◌≡◌ {A = ℕ} 0 1 = cc in absurd (omega arith)

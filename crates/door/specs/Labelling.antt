@@ -13,7 +13,7 @@ use Rattle.door.specs.Leaving.{Left, if_size, Leaves, leaves_same, right_size, w
 
 -- 0, the first byte and the length of a part; or a number, and the place as it was
 abbrev pub place_left : Answer → Span → List ℕ → Left
-place_left (Ok tt) span place = record { reply = 0; buffer = span.from ∷ span.size ∷ [] }
+place_left (Ok _) span place = record { reply = 0; buffer = span.from ∷ span.size ∷ [] }
 place_left (Err r) span place = record { reply = number_of r; buffer = place }
 
 -- what nimbra_label answers, and the place that it leaves

@@ -39,12 +39,12 @@ Slotted found = (length found.entries ≡ limits.slots) × (length found.imports
 
 -- 0 and the marks, or a number and the bytes as they were
 abbrev pub marks_left : Answer → Reach → List ℕ → Left
-marks_left (Ok tt) found marks = record { reply = 0; buffer = mark_bytes found }
+marks_left (Ok _) found marks = record { reply = 0; buffer = mark_bytes found }
 marks_left (Err r) found marks = record { reply = number_of r; buffer = marks }
 
 -- the reach of an entry of the table in sound words, or 29
 abbrev pub reach_left : Answer → List ℕ → ℕ → List ℕ → Left
-reach_left (Ok tt) state entry marks = let found = reach_of (monitor_in state).table entry in marks_left found.answer found marks
+reach_left (Ok _) state entry marks = let found = reach_of (monitor_in state).table entry in marks_left found.answer found marks
 reach_left (Err r) state entry marks = record { reply = number_of r; buffer = marks }
 
 -- what nimbra_reach answers, and the marks that it leaves
@@ -102,7 +102,7 @@ pub found_slotted : (t : Table) (entry : ℕ) (found : Reach) → ReachReply t e
 found_slotted t entry found reply = by (reach_fault t entry) reply
   where
     by : (a : Answer) → ReachReply t entry a found → Slotted found
-    by (Ok tt) reply = reply.1.slots
+    by (Ok _) reply = reply.1.slots
     by (Err r) reply = (
       ap (λ (x : Reach). length x.entries) reply ∙ length-replicate limits.slots false,
       ap (λ (x : Reach). length x.imports) reply ∙ length-replicate limits.imports false,

@@ -20,7 +20,7 @@ use Rattle.door.specs.Leaving.{Left, if_size, Leaves, leaves_same, right_size, w
 
 -- 0 and the words of a fresh monitor, or the reader's number and the words as they were
 abbrev pub start_left : Answer → Table → List ℕ → Left
-start_left (Ok tt) t state = record { reply = 0; buffer = state_of (fresh t) }
+start_left (Ok _) t state = record { reply = 0; buffer = state_of (fresh t) }
 start_left (Err r) t state = record { reply = number_of r; buffer = state }
 
 -- what nimbra_start answers, and the words that it leaves

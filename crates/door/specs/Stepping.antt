@@ -50,7 +50,7 @@ stepped_left m bytes =
 
 -- what the monitor in sound words answers; or 29, and nothing is touched
 abbrev pub sound_left : Answer → List ℕ → List ℕ → List ℕ → StepLeft
-sound_left (Ok tt) state bytes results = stepped_left (monitor_in state) bytes
+sound_left (Ok _) state bytes results = stepped_left (monitor_in state) bytes
 sound_left (Err r) state bytes results = record { reply = number_of r; state = state; results = results }
 
 -- the buffers have their sizes
@@ -117,11 +117,11 @@ no_result m bytes j none = by (unsound m) none
 
     taken : (a : Answer) → (is_accepted (step_reply a m (taken_by m bytes)).answer && ltb j m.table.n) ≡ false
         → result_in (step_reply a m (taken_by m bytes)).results j ≡ Outcome.Nothing
-    taken (Ok tt) none = no_result_yet m (taken_by m bytes) m.table.n j (ltb-false j m.table.n none)
+    taken (Ok _) none = no_result_yet m (taken_by m bytes) m.table.n j (ltb-false j m.table.n none)
     taken (Err r) none = nothing
 
     by : (a : Answer) → (is_accepted (sound_step a m bytes).answer && ltb j m.table.n) ≡ false → result_in (sound_step a m bytes).results j ≡ Outcome.Nothing
-    by (Ok tt) none = taken (taken_by m bytes).answer none
+    by (Ok _) none = taken (taken_by m bytes).answer none
     by (Err r) none = nothing
 
 -- so slots that were cleared hold all results
@@ -228,15 +228,15 @@ refused_as_it_came : (m : Monitor) (bytes : List ℕ) (r : Refusal) → (step_of
 unfolding step_of advanced
 refused_as_it_came m bytes r bad = by (unsound m) bad
   where
-    same : (f : Refusal) → Err f ≡ Err r → refused_step f m ≡ refused_step r m
+    same : (f : Refusal) → ◌≡◌ {A = Answer} (Err f) (Err r) → refused_step f m ≡ refused_step r m
     same f is = ap (λ (a : Answer). record { answer = a; monitor = m; results = no_results }) is
 
     taken : (a : Answer) → (step_reply a m (taken_by m bytes)).answer ≡ Err r → step_reply a m (taken_by m bytes) ≡ refused_step r m
-    taken (Ok tt) bad = not_accepted r (sym bad)
+    taken (Ok _) bad = not_accepted r (sym bad)
     taken (Err f) bad = same f bad
 
     by : (a : Answer) → (sound_step a m bytes).answer ≡ Err r → sound_step a m bytes ≡ refused_step r m
-    by (Ok tt) bad = taken (taken_by m bytes).answer bad
+    by (Ok _) bad = taken (taken_by m bytes).answer bad
     by (Err f) bad = same f bad
 
 -- 128 times "no result", in words

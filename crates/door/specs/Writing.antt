@@ -22,7 +22,7 @@ pub record WriteLeft : Type 0 where
 
 -- 0 and how many bytes were written, or a number and the word as it was
 abbrev pub size_left : Answer → ℕ → List ℕ → Left
-size_left (Ok tt) n size = record { reply = 0; buffer = n ∷ [] }
+size_left (Ok _) n size = record { reply = 0; buffer = n ∷ [] }
 size_left (Err r) n size = record { reply = number_of r; buffer = size }
 
 -- what the writer answers to a table
@@ -34,7 +34,7 @@ table_left t labels out size =
 
 -- what it answers to sound words, or 29
 abbrev pub words_left : Answer → List ℕ → List ℕ → List ℕ → List ℕ → WriteLeft
-words_left (Ok tt) state labels out size = table_left (monitor_in state).table labels out size
+words_left (Ok _) state labels out size = table_left (monitor_in state).table labels out size
 words_left (Err r) state labels out size = record { reply = number_of r; out = out; size = size }
 
 -- what nimbra_write answers, and what it leaves in both buffers

@@ -29,7 +29,7 @@ use Rattle.entries.specs.Entering.{operand_by, operands_by, entry_by, entered_of
 
 -- a value that is kept was accepted, and is the one that was read
 kept : (answer : Answer) (v end a next : ℕ) → judged answer v end ≡ got a next → (v ≡ a) × (answer ≡ Ok tt)
-kept (Ok tt) v end a next e = (cc, refl)
+kept (Ok _) v end a next e = (cc, refl)
 kept (Err r) v end a next e = let z : ◌≡◌ {A = ℕ} 0 1 = cc in absurd (omega arith)
 
 -- what is taken of a field was there, and was accepted

@@ -107,7 +107,7 @@ join_refused (got x n) (got y m) c f g make r second third last = rw last
 
 -- what comes before an accepted taking was accepted
 accepted_first : (answer : Answer) (n next : ℕ) (f : ℕ → ℕ → Got ℕ) (y m : ℕ) → got y m ≡ onward (judged answer n next) f → answer ≡ Ok tt
-accepted_first (Ok tt) n next f y m e = refl
+accepted_first (Ok _) n next f y m e = refl
 accepted_first (Err r) n next f y m e = let z : ◌≡◌ {A = ℕ} 0 1 = cc in absurd (omega arith)
 
 accepted_before : (x y : Taking) (f : ℕ → ℕ → Got ℕ) → got_of y ≡ onward (got_of x) f → y.answer ≡ Ok tt → x.answer ≡ Ok tt

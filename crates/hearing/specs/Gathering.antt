@@ -170,7 +170,7 @@ module _ {t : Table} {count : ℕ} {s first words : List ℕ} {at least left : �
 
   -- no report is left: the end decides
   pub gathers_ends : left ≤ 0 → (answer : Answer) → answer ≡ closed s at → first ≡ replicate 64 0 → Gathered t count s answer words
-  gathers_ends none (Ok tt) e empty =
+  gathers_ends none (Ok _) e empty =
       let h : Hears t count s words at least left = g.hears empty in
       gathered_accepted h.slots h.reported h.are (λ time. end_accepted h.sofar time none (sym e))
   gathers_ends none (Err r) e empty = gathered_refused r (λ time. end_refused (g.hears empty).sofar time none r (sym e))

@@ -37,7 +37,7 @@ event_word_lem false = refl
 -- two ways to go on that are the same for a number at hand, which is judged first
 same_judged : {B : Type 0} (answer : Answer) (v next : ℕ) (f g : ℕ → ℕ → Got B) → f v next ≡ g v next
     → onward (judged answer v next) f ≡ onward (judged answer v next) g
-same_judged (Ok tt) v next f g same = same
+same_judged (Ok _) v next f g same = same
 same_judged (Err r) v next f g same = refl
 
 -- and for a field's answer

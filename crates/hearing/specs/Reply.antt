@@ -16,7 +16,7 @@ pub data Reply : Type 0 where
 
 -- the time and the words are looked at only where nothing was refused
 abbrev pub reply_by : Answer → ℕ → List ℕ → Reply
-reply_by (Ok tt) time words = telling time words
+reply_by (Ok _) time words = telling time words
 reply_by (Err r) time words = refusing r
 
 -- what a caller may look at
@@ -26,7 +26,7 @@ reply_of h words = reply_by h.answer h.time words
 -- at one answer, times and words that are the same where it accepts
 reply_same : (a : Answer) {time₁ time₂ : ℕ} {words₁ words₂ : List ℕ} → (a ≡ Ok tt → time₁ ≡ time₂) → (a ≡ Ok tt → words₁ ≡ words₂)
     → reply_by a time₁ words₁ ≡ reply_by a time₂ words₂
-reply_same (Ok tt) times words = ap₂ telling (times refl) (words refl)
+reply_same (Ok _) times words = ap₂ telling (times refl) (words refl)
 reply_same (Err r) times words = refl
 
 module _ {t : Table} {earliest : ℕ} {s : List ℕ} where

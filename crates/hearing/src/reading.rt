@@ -7,8 +7,8 @@ ghost use Rattle.hearing.specs.Hearing.{event_words, refused_heading, Heard};
 ghost use Rattle.hearing.specs.Lent.{lent};
 ghost use Rattle.hearing.specs.Gathering.{kept_at, Gathered};
 
-use crate::report::next_report;
 use crate::Heading;
+use crate::report::next_report;
 use refusals::Refusal;
 use table::Table;
 
@@ -66,7 +66,13 @@ fn close(s: &[u8], at: usize) -> Result<(), Refusal>
 }
 
 // "the reports, import numbers strictly rising", and the end of the step.
-fn reports(q: usize, count: usize, events: &[u64], s: &[u8], told: &mut [u64]) -> Result<(), Refusal>
+fn reports(
+    q: usize,
+    count: usize,
+    events: &[u64],
+    s: &[u8],
+    told: &mut [u64],
+) -> Result<(), Refusal>
     requires { count ≤ 63 }
     ensures { told.old ≡ replicate 64 0 → Gathered (lent q events.now) count s.now result told.new }
 {

@@ -64,10 +64,10 @@ fn event(s: &[u8], at: usize, i: usize) -> Result<Next, Refusal>
     let first = at + 1;
     if bit != 1 {
         return Ok(Next {
-        imported: i,
-        word: 4,
-        next: first,
-    });
+            imported: i,
+            word: 4,
+            next: first,
+        });
     }
     let Some(value) = bits::field_at(s, first, 48) else {
         return Err(Refusal::StepCut);
@@ -101,7 +101,13 @@ fn is_event(events: &[u64], i: usize) -> bool
 }
 
 // The next report, read by what is lent of the table: how many imports it has, and which are events.
-pub(crate) fn next_report(s: &[u8], at: usize, q: usize, least: usize, events: &[u64]) -> Result<Next, Refusal>
+pub(crate) fn next_report(
+    s: &[u8],
+    at: usize,
+    q: usize,
+    least: usize,
+    events: &[u64],
+) -> Result<Next, Refusal>
     requires { at ≤ 4096 }
     ensures { result ≡ next_of (next_report (lent q events.now) least s.now at) }
 {

@@ -153,6 +153,6 @@ unfolding answer_by said the_logic
 marked_examples = refl
 
 -- and every table of the list is one that the monitor takes
-pub marked_tables_sound : map (λ c. table_fault c.table) cases ≡ map (λ c. (Ok tt)) cases
+pub marked_tables_sound : map (λ c. table_fault c.table) cases ≡ map (λ c. Ok tt) cases
 unfolding table_fault limits_fault number_fault operands_fault operand_fault unused_slots every_slot first_fault entry_at initial_of is_event import_sort sort_of operands_of
 marked_tables_sound = refl

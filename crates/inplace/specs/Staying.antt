@@ -38,7 +38,7 @@ module _ (m : Monitor) (standing : Standing m) where
   step_stands bytes = by (taken_by m bytes).answer refl
     where
       by : (a : Answer) → (taken_by m bytes).answer ≡ a → Standing (step_of m bytes).monitor
-      by (Ok tt) is =
+      by (Ok _) is =
           subst Standing (sym (ap (λ (x : Stepped). x.monitor) (step_accepted m standing.sound bytes is)))
           (advanced_stands (taken_by m bytes) (taken_fits m bytes is))
       by (Err r) is = subst Standing (sym (ap (λ (x : Stepped). x.monitor) (step_refused m standing.sound bytes r is))) standing
@@ -49,5 +49,5 @@ module _ (m : Monitor) (standing : Standing m) where
   step_table bytes = by (taken_by m bytes).answer refl
     where
       by : (a : Answer) → (taken_by m bytes).answer ≡ a → (step_of m bytes).monitor.table ≡ m.table
-      by (Ok tt) is = ap (λ (x : Stepped). x.monitor.table) (step_accepted m standing.sound bytes is)
+      by (Ok _) is = ap (λ (x : Stepped). x.monitor.table) (step_accepted m standing.sound bytes is)
       by (Err r) is = ap (λ (x : Stepped). x.monitor.table) (step_refused m standing.sound bytes r is)

@@ -75,7 +75,7 @@ module _ (told : List ℕ) (n q time : ℕ) (state results : List ℕ) (long : l
 
 -- whether an answer is an acceptance
 abbrev pub is_accepted : Answer → Bool
-is_accepted (Ok tt) = true
+is_accepted (Ok _) = true
 is_accepted (Err r) = false
 
 -- what the slots hold after a step, by what they held before: the first n have its results where it was accepted; else they stay

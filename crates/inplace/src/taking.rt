@@ -50,7 +50,13 @@ fn advance(state: &mut [u64], told: &[u64], results: &mut [u64], n: usize, q: us
 }
 
 // A step of words that have the room of a monitor: what the bytes say, then the entries in order.
-fn heard(state: &mut [u64], s: &[u8], results: &mut [u64], n: usize, q: usize) -> Result<(), Refusal>
+fn heard(
+    state: &mut [u64],
+    s: &[u8],
+    results: &mut [u64],
+    n: usize,
+    q: usize,
+) -> Result<(), Refusal>
     requires { (length state.old ≡ 452) × (length results.old ≡ 128) × (n ≤ 128) × (q ≤ 48) }
     ensures { Takes n q s.now result state.old results.old state.new results.new }
 {

@@ -49,7 +49,7 @@ fresh t =
 
 -- "A start on a table at fault gives 29 and the monitor of the empty table"
 abbrev pub start_reply : Answer → Table → Started
-start_reply (Ok tt) t = record { answer = Ok tt; monitor = fresh t }
+start_reply (Ok _) t = record { answer = Ok tt; monitor = fresh t }
 start_reply (Err r) t = record { answer = Err r; monitor = fresh empty_table }
 
 -- what a start answers: 29 or a monitor

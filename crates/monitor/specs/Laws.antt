@@ -23,7 +23,7 @@ pub record Kept (m : Monitor) : Type 0 where
 
 -- where 29 is not given there is no fault
 no_29 : (a : Answer) → as_unsound a ≡ Ok tt → a ≡ Ok tt
-no_29 (Ok tt) good = refl
+no_29 (Ok _) good = refl
 no_29 (Err r) good = not_accepted Refusal.Unsound good
 
 module _ (m : Monitor) where

@@ -80,7 +80,7 @@ refused_step r m = record { answer = Err r; monitor = m; results = no_results }
 
 -- a step that was read is taken; one that was refused changes nothing
 abbrev pub step_reply : Answer → Monitor → Taken → Stepped
-step_reply (Ok tt) m s = advanced m s
+step_reply (Ok _) m s = advanced m s
 step_reply (Err r) m s = refused_step r m
 
 -- what is taken from the bytes of a step, by the table and by what is kept
@@ -89,7 +89,7 @@ taken_by m bytes = taken_of m.reported (read_step m.table m.last bytes 0)
 
 -- "29 before all else in a step"
 abbrev pub sound_step : Answer → Monitor → List ℕ → Stepped
-sound_step (Ok tt) m bytes = step_reply (taken_by m bytes).answer m (taken_by m bytes)
+sound_step (Ok _) m bytes = step_reply (taken_by m bytes).answer m (taken_by m bytes)
 sound_step (Err r) m bytes = refused_step r m
 
 -- what a step answers

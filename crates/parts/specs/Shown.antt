@@ -6,7 +6,7 @@ use Rattle.script.specs.Reader.{read_script}
 
 -- the refusal's number; 0 where nothing is refused
 abbrev pub outcome_number : Answer → ℕ
-outcome_number (Ok tt) = 0
+outcome_number (Ok _) = 0
 outcome_number (Err r) = number_of r
 
 -- the number of a script's own refusal

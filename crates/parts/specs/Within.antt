@@ -25,7 +25,7 @@ Inside s span = span.from + span.size ≤ length s
 
 -- a value that is judged
 gives_judged : {A : Type 0} (answer : Answer) (a : A) (next : ℕ) {P : A → ℕ → Type 0} → P a next → Gives (judged answer a next) P
-gives_judged (Ok tt) a next p = gives_value p
+gives_judged (Ok _) a next p = gives_value p
 gives_judged (Err r) a next p = gives_refused
 
 -- a text that is wholly there

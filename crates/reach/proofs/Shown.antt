@@ -33,7 +33,7 @@ same_test false false there back = refl
 
 -- neither 29 nor what comes after it
 asked : (a b : Answer) → and_then (as_unsound a) b ≡ Ok tt → (a ≡ Ok tt) × (b ≡ Ok tt)
-asked (Ok tt) b good = (refl, good)
+asked (Ok _) b good = (refl, good)
 asked (Err r) b good = not_accepted Refusal.Unsound good
 
 -- a reach that is not refused is asked of a table without fault, and of an entry of it
@@ -94,7 +94,7 @@ shows_worked_out t k good = subst (Shows t k) (ap (reach_reply t k) (sym good)) 
 -- the reply to an answer
 reply_marks : (t : Table) (k : ℕ) (a : Answer) → reach_fault t k ≡ a → ReachReply t k a (reach_reply t k a)
 unfolding marks_of
-reply_marks t k (Ok tt) good = (refl, shows_marks t k good)
+reply_marks t k (Ok _) good = (refl, shows_marks t k good)
 reply_marks t k (Err f) refused = refl
 
 -- the worked-out reply is one that a reach may give
@@ -123,7 +123,7 @@ shown_same t k a b answer x y =
 
 -- two replies to an answer are the same
 replies_same : (t : Table) (k : ℕ) (answer : Answer) (a b : Reach) → ReachReply t k answer a → ReachReply t k answer b → a ≡ b
-replies_same t k (Ok tt) a b x y = shown_same t k a b (x.0 ∙ sym y.0) x.1 y.1
+replies_same t k (Ok _) a b x y = shown_same t k a b (x.0 ∙ sym y.0) x.1 y.1
 replies_same t k (Err f) a b x y = x ∙ sym y
 
 -- "two replies allowed by the statement are equal"

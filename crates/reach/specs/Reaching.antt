@@ -95,7 +95,7 @@ no_marks r = record { answer = Err r; entries = replicate limits.slots false; im
 
 -- what a reach may answer
 abbrev pub ReachReply : Table → ℕ → Answer → Reach → Type 0
-ReachReply t k (Ok tt) r = (r.answer ≡ Ok tt) × Shows t k r
+ReachReply t k (Ok _) r = (r.answer ≡ Ok tt) × Shows t k r
 ReachReply t k (Err f) r = r ≡ no_marks f
 
 -- "with any entry, its operand entries"

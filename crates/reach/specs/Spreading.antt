@@ -38,7 +38,7 @@ marks_of t k =
 
 -- the marks, or "no marks"
 abbrev pub reach_reply : Table → ℕ → Answer → Reach
-reach_reply t k (Ok tt) = marks_of t k
+reach_reply t k (Ok _) = marks_of t k
 reach_reply t k (Err r) = no_marks r
 
 -- the reach of an entry of any table

@@ -37,13 +37,13 @@ packed_whole s = refl
 
 -- whether something was refused
 abbrev pub is_refused : Answer → Bool
-is_refused (Ok tt) = false
+is_refused (Ok _) = false
 is_refused (Err r) = true
 
 -- a stage that was refused ends the reading
 stops : (answer : Answer) (t : Table) (at : ℕ) (m : Got Table) (f : Table → ℕ → Got Table) → reached_by answer t at ≡ m → is_refused answer ≡ true
     → reached_by answer t at ≡ onward m f
-stops (Ok tt) t at m f e no_way = let z : ◌≡◌ {A = ℕ} 0 1 = cc in absurd (omega arith)
+stops (Ok _) t at m f e no_way = let z : ◌≡◌ {A = ℕ} 0 1 = cc in absurd (omega arith)
 stops (Err r) t at m f e stopped = ap (λ (x : Got Table). onward x f) e
 
 pub stage_stops : (stage : Stage) (m : Got Table) (f : Table → ℕ → Got Table) → reached stage ≡ m → is_refused stage.answer ≡ true
@@ -52,7 +52,7 @@ stage_stops stage m f e stopped = stops stage.answer stage.table stage.at m f e 
 
 -- a stage that was not leads on
 goes : (answer : Answer) (t : Table) (at : ℕ) (m : Got Table) → reached_by answer t at ≡ m → is_refused answer ≡ false → m ≡ got t at
-goes (Ok tt) t at m e on = sym e
+goes (Ok _) t at m e on = sym e
 goes (Err r) t at m e no_way = let z : ◌≡◌ {A = ℕ} 0 1 = cc in absurd (omega arith)
 
 pub stage_goes : (stage : Stage) (m : Got Table) → reached stage ≡ m → is_refused stage.answer ≡ false → m ≡ got stage.table stage.at

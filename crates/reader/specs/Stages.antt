@@ -7,7 +7,7 @@ use Rattle.reader.specs.declared.Stage.{Stage}
 
 -- an answer, with the table so far and the bit after it
 abbrev pub reached_by : Answer → Table → ℕ → Got Table
-reached_by (Ok tt) t at = got t at
+reached_by (Ok _) t at = got t at
 reached_by (Err r) t at = refused r
 
 -- a stage as the definition has it

@@ -16,11 +16,11 @@ unless_accepted false r e = not_accepted r e
 
 -- the first of two is accepted, and the second
 pub accepted_first : (a b : Answer) → and_then a b ≡ Ok tt → a ≡ Ok tt
-accepted_first (Ok tt) b e = refl
+accepted_first (Ok _) b e = refl
 accepted_first (Err r) b e = e
 
 pub accepted_second : (a b : Answer) → and_then a b ≡ Ok tt → b ≡ Ok tt
-accepted_second (Ok tt) b e = e
+accepted_second (Ok _) b e = e
 accepted_second (Err r) b e = not_accepted r e
 
 -- where the first is refused, so are both

@@ -70,7 +70,7 @@ unless false r = Err r
 
 -- "the first fault decides"
 abbrev pub and_then : Answer → Answer → Answer
-and_then (Ok tt) b = b
+and_then (Ok _) b = b
 and_then (Err r) b = Err r
 
 -- the first fault among f 0, f 1, ..., f (n - 1)

@@ -110,12 +110,12 @@ pub record Bounded (s : Stepped) : Type 0 where
 reply_bounded : (a : Answer) (m : Monitor) (s : Taken) → m.table.n ≤ limits.entries → s.time < 2 ^ 47 → (step_reply a m s).answer ≡ Ok tt
     → Bounded (step_reply a m s)
 unfolding advanced monitor_after
-reply_bounded (Ok tt) m s few early good = record { entries = few; time = omega arith }
+reply_bounded (Ok _) m s few early good = record { entries = few; time = omega arith }
 reply_bounded (Err r) m s few early good = not_accepted r good
 
 -- and after 29
 sound_bounded : (a : Answer) (m : Monitor) (bytes : List ℕ) → unsound m ≡ a → (sound_step a m bytes).answer ≡ Ok tt → Bounded (sound_step a m bytes)
-sound_bounded (Ok tt) m bytes sound good = reply_bounded (taken_by m bytes).answer m (taken_by m bytes) (slots_enough m sound) (taken_time m bytes _ refl) good
+sound_bounded (Ok _) m bytes sound good = reply_bounded (taken_by m bytes).answer m (taken_by m bytes) (slots_enough m sound) (taken_time m bytes _ refl) good
 sound_bounded (Err r) m bytes sound good = not_accepted r good
 
 -- an accepted step has no more entries than there are slots, and a time below 2^47
@@ -126,7 +126,7 @@ step_bounded m bytes good = sound_bounded (unsound m) m bytes refl good
 -- what is printed of a step's reply, by its answer
 said_length : (label : ℕ → List ℕ) (s : Stepped) (a : Answer) → ((k : ℕ) → k < limits.slots → length (label k) ≤ limits.label)
     → (a ≡ Ok tt → Bounded s) → length (said_of label s a) ≤ move_room
-said_length label s (Ok tt) short bounded =
+said_length label s (Ok _) short bounded =
     let b = bounded refl in
     let n = s.monitor.table.n in
     let rows = rows_length (time_of s.monitor) b.time label (result_in s.results) n (omega arith) (λ k below. short k (omega arith)) in
@@ -166,11 +166,11 @@ once_fits count few =
 
 -- so have both counts after a step
 accepted_fits : (a : Answer) (count : ℕ) → count < 2 ^ 64 → accepted_after a count < 2 ^ 64
-accepted_fits (Ok tt) count few = once_fits count few
+accepted_fits (Ok _) count few = once_fits count few
 accepted_fits (Err r) count few = few
 
 refused_fits : (a : Answer) (count : ℕ) → count < 2 ^ 64 → refused_after a count < 2 ^ 64
-refused_fits (Ok tt) count few = few
+refused_fits (Ok _) count few = few
 refused_fits (Err r) count few = once_fits count few
 
 -- a move that has room, and leaves such a player

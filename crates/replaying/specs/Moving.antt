@@ -42,7 +42,7 @@ time_of m = m.last - 1
 
 -- what is printed of a step's reply, by the label of each entry
 abbrev pub said_of : (ℕ → List ℕ) → Stepped → Answer → List ℕ
-said_of label s (Ok tt) = row_lines label (time_of s.monitor) (result_in s.results) s.monitor.table.n
+said_of label s (Ok _) = row_lines label (time_of s.monitor) (result_in s.results) s.monitor.table.n
 said_of label s (Err r) = refused_line r
 
 -- what is printed of a step's reply
@@ -59,12 +59,12 @@ once_more count = cond (ltb count most_steps) (suc count) count
 
 -- how many steps were accepted after this answer
 abbrev pub accepted_after : Answer → ℕ → ℕ
-accepted_after (Ok tt) count = once_more count
+accepted_after (Ok _) count = once_more count
 accepted_after (Err r) count = count
 
 -- how many were refused
 abbrev pub refused_after : Answer → ℕ → ℕ
-refused_after (Ok tt) count = count
+refused_after (Ok _) count = count
 refused_after (Err r) count = once_more count
 
 -- a player before the first byte of a stream

@@ -20,7 +20,7 @@ use Rattle.replaying.specs.Turning.{Going, awaiting, going_more}
 
 -- any fault is 29
 as_29 : (a : Answer) (r : Refusal) → as_unsound a ≡ Err r → as_unsound a ≡ Err Refusal.Unsound
-as_29 (Ok tt) r bad = not_accepted r (sym bad)
+as_29 (Ok _) r bad = not_accepted r (sym bad)
 as_29 (Err s) r bad = refl
 
 -- a monitor that is found at fault is stopped by 29

@@ -23,7 +23,7 @@ printed w = cond (eqb w 10) (Outcome.Raised true) (cond (eqb w 12) (Outcome.Prop
 
 -- what is printed of an answer, by the label and the result of each entry
 abbrev pub answer_lines : (ℕ → List ℕ) → Answer → ℕ → (ℕ → Outcome) → ℕ → List ℕ
-answer_lines label (Ok tt) time result n = row_lines label time result n
+answer_lines label (Ok _) time result n = row_lines label time result n
 answer_lines label (Err r) time result n = refused_line r
 
 -- a result and its word have the same line
@@ -50,7 +50,7 @@ unfolding reply_lines
 reply_printed label s words each = by s.answer refl
   where
     by : (a : Answer) → s.answer ≡ a → answer_lines label a (time_of s.monitor) (λ k. printed (get_or words k 0)) s.monitor.table.n ≡ said_of label s a
-    by (Ok tt) is = rows_printed label (time_of s.monitor) (result_in s.results) words s.monitor.table.n (λ k h. each k is h)
+    by (Ok _) is = rows_printed label (time_of s.monitor) (result_in s.results) words s.monitor.table.n (λ k h. each k is h)
     by (Err r) is = refl
 
 module _ {dst after : List ℕ} {at next : ℕ} (time k : ℕ) {label text : List ℕ} {w : ℕ} where

@@ -39,7 +39,7 @@ span_after far span = record { from = far + span.from; size = span.size }
 -- judged, and moved
 judged_moved : {A : Type 0} (f : A → A) (far : ℕ) (answer : Answer) (a : A) (next : ℕ)
     → judged answer (f a) (far + next) ≡ moved f far (judged answer a next)
-judged_moved f far (Ok tt) a next = refl
+judged_moved f far (Ok _) a next = refl
 judged_moved f far (Err r) a next = refl
 
 -- tested, and moved

@@ -69,12 +69,12 @@ writer_fault t block room =
 
 -- how many bytes are written
 abbrev pub written_reply : Answer → ℕ → Written
-written_reply (Ok tt) size = record { answer = Ok tt; size = size }
+written_reply (Ok _) size = record { answer = Ok tt; size = size }
 written_reply (Err r) size = record { answer = Err r; size = 0 }
 
 -- "An accepted write fills the first bytes; all later bytes of the destination stay"; a refused write changes no byte
 abbrev pub written_bytes : Answer → List ℕ → List ℕ → List ℕ
-written_bytes (Ok tt) script destination = script ++ drop (length script) destination
+written_bytes (Ok _) script destination = script ++ drop (length script) destination
 written_bytes (Err r) script destination = destination
 
 -- what the writer answers to a table and a block of labels, given a destination

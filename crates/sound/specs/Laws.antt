@@ -30,11 +30,11 @@ abbrev pub entry_fault : Table → ℕ → Answer
 entry_fault t k = operands_fault t k (operands_of (entry_at t k))
 
 then_accepted : (a : Answer) → and_then a (Ok tt) ≡ a
-then_accepted (Ok tt) = refl
+then_accepted (Ok _) = refl
 then_accepted (Err r) = refl
 
 then_then : (a b c : Answer) → and_then (and_then a b) c ≡ and_then a (and_then b c)
-then_then (Ok tt) b c = refl
+then_then (Ok _) b c = refl
 then_then (Err r) b c = refl
 
 -- the sort is looked at only where the operand is there

@@ -13,11 +13,7 @@ use values::Number;
 pub(crate) fn unless(so: bool, r: Refusal) -> Result<(), Refusal>
     ensures { result ≡ unless so r }
 {
-    if so {
-        Ok(())
-    } else {
-        Err(r)
-    }
+    if so { Ok(()) } else { Err(r) }
 }
 
 // Sorts as numbers.
@@ -63,7 +59,14 @@ fn placed(there: bool, have: u8, s: Sort) -> Result<(), Refusal>
 }
 
 // What is wrong with an operand of entry k.
-pub fn judge(o: Operand, k: usize, q: usize, v: usize, sorts: &[u8], events: &[bool]) -> Result<(), Refusal>
+pub fn judge(
+    o: Operand,
+    k: usize,
+    q: usize,
+    v: usize,
+    sorts: &[u8],
+    events: &[bool],
+) -> Result<(), Refusal>
     ensures { result ≡ judged_by sorts.now events.now q v k o }
 {
     match o {

@@ -88,7 +88,13 @@ fn is_event(events: &[bool], i: usize) -> bool
 }
 
 // The next report, read by what is lent of the table: how many imports it has, and which are events.
-pub(crate) fn next_report(s: &[u8], at: usize, q: usize, least: usize, events: &[bool]) -> Result<Heard, Refusal>
+pub(crate) fn next_report(
+    s: &[u8],
+    at: usize,
+    q: usize,
+    least: usize,
+    events: &[bool],
+) -> Result<Heard, Refusal>
     requires { at ≤ 4096 }
     ensures { (t : tables.Table) → t.q ≡ q → t.events ≡ events.now → result ≡ heard_of (next_report t least s.now at) }
 {

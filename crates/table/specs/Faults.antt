@@ -45,7 +45,7 @@ table_fault t =
 
 -- any fault is 29
 abbrev pub as_unsound : Answer → Answer
-as_unsound (Ok tt) = Ok tt
+as_unsound (Ok _) = Ok tt
 as_unsound (Err r) = Err Refusal.Unsound
 
 -- "29: ... table that the writer would refuse with 4, 7, 8 or 13"
