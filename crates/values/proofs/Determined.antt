@@ -7,7 +7,7 @@ use Rattle.values.proofs.Truth.implies.Reads as implies
 use Rattle.values.proofs.Truth.defined.Reads as defined
 use Rattle.values.proofs.Truth.is_true.Reads as is_true
 use Rattle.values.proofs.Truth.is_false.Reads as is_false
-use Rattle.values.proofs.Truth.of.Reads as of
+use Rattle.values.proofs.truths.TruthFromBool.from.Reads as of
 use Rattle.values.proofs.Number.sum.Reads as sum
 use Rattle.values.proofs.Number.difference.Reads as difference
 use Rattle.values.proofs.Number.less.Reads as less

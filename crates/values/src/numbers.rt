@@ -5,14 +5,16 @@ ghost use Rattle.values.specs.Adding.{negative, addable};
 
 use crate::{Number, Truth};
 
+// "from -2^47 to 2^47-1"
+const LEAST: i64 = -140737488355328;
+
+const MOST: i64 = 140737488355327;
+
 // "a whole number from -2^47 to 2^47-1"
 fn in_range(z: i64) -> bool
     ensures { result ≡ in_range z }
 {
-    if z < -140737488355328 {
-        return false;
-    }
-    z < 140737488355328
+    (LEAST..=MOST).contains(&z)
 }
 
 // "A sum or difference outside the number range is undefined."
@@ -36,10 +38,7 @@ fn negative(z: i64) -> bool
 fn addable(a: i64, b: i64) -> bool
     ensures { result ≡ addable a b }
 {
-    if negative(a) != negative(b) {
-        return true;
-    }
-    if in_range(a) { in_range(b) } else { false }
+    negative(a) != negative(b) || in_range(a) && in_range(b)
 }
 
 fn add(a: i64, b: i64) -> Number
@@ -68,12 +67,9 @@ impl Number {
     pub fn sum(self, other: Number) -> Number
         ensures { result ≡ sum_n self other }
     {
-        match self {
-            Number::Undefined => Number::Undefined,
-            Number::Whole(a) => match other {
-                Number::Undefined => Number::Undefined,
-                Number::Whole(b) => add(a, b),
-            },
+        match (self, other) {
+            (Number::Whole(a), Number::Whole(b)) => add(a, b),
+            _ => Number::Undefined,
         }
     }
 
@@ -81,12 +77,9 @@ impl Number {
     pub fn difference(self, other: Number) -> Number
         ensures { result ≡ difference_n self other }
     {
-        match self {
-            Number::Undefined => Number::Undefined,
-            Number::Whole(a) => match other {
-                Number::Undefined => Number::Undefined,
-                Number::Whole(b) => subtract(a, b),
-            },
+        match (self, other) {
+            (Number::Whole(a), Number::Whole(b)) => subtract(a, b),
+            _ => Number::Undefined,
         }
     }
 
@@ -94,12 +87,9 @@ impl Number {
     pub fn less(self, other: Number) -> Truth
         ensures { result ≡ less_n self other }
     {
-        match self {
-            Number::Undefined => Truth::Undefined,
-            Number::Whole(a) => match other {
-                Number::Undefined => Truth::Undefined,
-                Number::Whole(b) => Truth::of(a < b),
-            },
+        match (self, other) {
+            (Number::Whole(a), Number::Whole(b)) => Truth::from(a < b),
+            _ => Truth::Undefined,
         }
     }
 
@@ -107,12 +97,9 @@ impl Number {
     pub fn equal(self, other: Number) -> Truth
         ensures { result ≡ equal_n self other }
     {
-        match self {
-            Number::Undefined => Truth::Undefined,
-            Number::Whole(a) => match other {
-                Number::Undefined => Truth::Undefined,
-                Number::Whole(b) => Truth::of(a == b),
-            },
+        match (self, other) {
+            (Number::Whole(a), Number::Whole(b)) => Truth::from(a == b),
+            _ => Truth::Undefined,
         }
     }
 

@@ -10,13 +10,8 @@ impl Outcome {
         ensures { result ≡ condition_in self }
     {
         match self {
-            Outcome::Nothing => Truth::Undefined,
             Outcome::Condition(c) => c,
-            Outcome::Event(b) => Truth::Undefined,
-            Outcome::Numeric(x) => Truth::Undefined,
-            Outcome::Done(b) => Truth::Undefined,
-            Outcome::Raised(b) => Truth::Undefined,
-            Outcome::Property(c) => Truth::Undefined,
+            _ => Truth::Undefined,
         }
     }
 
@@ -25,13 +20,8 @@ impl Outcome {
         ensures { result ≡ event_in self }
     {
         match self {
-            Outcome::Nothing => false,
-            Outcome::Condition(c) => false,
             Outcome::Event(b) => b,
-            Outcome::Numeric(x) => false,
-            Outcome::Done(b) => false,
-            Outcome::Raised(b) => false,
-            Outcome::Property(c) => false,
+            _ => false,
         }
     }
 
@@ -40,13 +30,8 @@ impl Outcome {
         ensures { result ≡ number_in self }
     {
         match self {
-            Outcome::Nothing => Number::Undefined,
-            Outcome::Condition(c) => Number::Undefined,
-            Outcome::Event(b) => Number::Undefined,
             Outcome::Numeric(x) => x,
-            Outcome::Done(b) => Number::Undefined,
-            Outcome::Raised(b) => Number::Undefined,
-            Outcome::Property(c) => Number::Undefined,
+            _ => Number::Undefined,
         }
     }
 
@@ -55,13 +40,8 @@ impl Outcome {
         ensures { result ≡ is_done self }
     {
         match self {
-            Outcome::Nothing => false,
-            Outcome::Condition(c) => false,
-            Outcome::Event(b) => false,
-            Outcome::Numeric(x) => false,
             Outcome::Done(b) => b,
-            Outcome::Raised(b) => false,
-            Outcome::Property(c) => false,
+            _ => false,
         }
     }
 }

@@ -19,25 +19,17 @@ impl Truth {
     pub fn or(self, other: Truth) -> Truth
         ensures { result ≡ or_t self other }
     {
-        match self {
-            Truth::True => Truth::True,
-            Truth::False => other,
-            Truth::Undefined => match other {
-                Truth::True => Truth::True,
-                Truth::False => Truth::Undefined,
-                Truth::Undefined => Truth::Undefined,
-            },
+        match (self, other) {
+            (Truth::True, _) | (_, Truth::True) => Truth::True,
+            (Truth::False, other) => other,
+            (Truth::Undefined, _) => Truth::Undefined,
         }
     }
 
     pub fn defined(self) -> Truth
         ensures { result ≡ defined_t self }
     {
-        match self {
-            Truth::Undefined => Truth::False,
-            Truth::False => Truth::True,
-            Truth::True => Truth::True,
-        }
+        Truth::from(self != Truth::Undefined)
     }
 
     // "a and b" is not (not a or not b)
@@ -58,28 +50,22 @@ impl Truth {
     pub fn is_true(self) -> bool
         ensures { result ≡ is_true self }
     {
-        match self {
-            Truth::Undefined => false,
-            Truth::False => false,
-            Truth::True => true,
-        }
+        self == Truth::True
     }
 
     // "where it is false": undefined is not false
     pub fn is_false(self) -> bool
         ensures { result ≡ is_false self }
     {
-        match self {
-            Truth::Undefined => false,
-            Truth::False => true,
-            Truth::True => false,
-        }
+        self == Truth::False
     }
+}
 
-    // What is known to hold or known not to: never undefined.
-    pub fn of(b: bool) -> Truth
-        ensures { result ≡ truth_of b }
-    {
+// What is known to hold or known not to: never undefined.
+impl From<bool> for Truth {
+    ghost from_gives = { λ b t. t ≡ truth_of b };
+
+    fn from(b: bool) -> Truth {
         if b { Truth::True } else { Truth::False }
     }
 }
