@@ -3,12 +3,11 @@ use Rattle.std.specs.Prelude.{true, ◌≡◌, refl, T}
 use mathlib.Core.List.{List, [], ◌∷◌, map}
 use Rattle.std.proofs.Math.Option.{Option, some}
 use Rattle.std.proofs.Math.Path.{sym, ap, fun_ext}
-use Rattle.std.proofs.Common.{◌∙◌, subst, arith}
+use Rattle.std.proofs.Common.{◌∙◌, subst, arith, Ok}
 use Prim.Native.Nat.{ℕ, zero, suc, ◌<◌, ◌≤◌}
 use Rattle.std.proofs.Math.IntN.{pos}
 use Rattle.values.specs.Truths.{is_true, is_false}
 use Rattle.values.specs.declared.Outcome.{Outcome}
-use Rattle.refusals.specs.declared.Answer.{Answer}
 use Rattle.table.specs.declared.Table.{Table}
 use Rattle.table.specs.Kinds.{Change, operands_of, update_of}
 use Rattle.table.specs.Tables.{entry_at}
@@ -114,13 +113,13 @@ rule_rows t k [] = refl
 rule_rows t k (s ∷ h) = ap (λ (earlier : List Outcome). result_at t (s ∷ h) k ∷ earlier) (rule_rows t k h)
 
 -- "Two streams that agree on what a rule reaches", for any closed set that holds the rule
-pub same_results : (t : Table) → table_fault t ≡ Answer.Accepted → (S : Entries) → Closed (leads_to t) t.n S
+pub same_results : (t : Table) → table_fault t ≡ Ok tt → (S : Entries) → Closed (leads_to t) t.n S
     → (g h : History) → Agree (touching_by t S) g h → (k : ℕ) → k < t.n → T (S k) → results_of_rule t k g ≡ results_of_rule t k h
 same_results t good S closed g h agree k below is =
     rule_rows t k g ∙ said_same (pasts_same t (sound_table t good) S closed g h agree) k (below, is) ∙ sym (rule_rows t k h)
 
 -- and so for what a reach shows
-pub shown_same : (t : Table) → table_fault t ≡ Answer.Accepted → (k : ℕ) → k < t.n → (r : Reach) → Shows t k r
+pub shown_same : (t : Table) → table_fault t ≡ Ok tt → (k : ℕ) → k < t.n → (r : Reach) → Shows t k r
     → (g h : History) → Agree (touching_in r) g h → results_of_rule t k g ≡ results_of_rule t k h
 shown_same t good k below r shows g h agree =
     let reached : touching_in r ≡ touching_by t (marked_in r) = λ i. record { imports = fun_ext shows.imports i; clock = shows.clock i } in

@@ -1,6 +1,5 @@
 -- "Fields are packed without gaps, most significant bit first": fields out of bytes, and bytes made of fields.
-use Rattle.std.specs.Prelude.{Bool, ◌&&◌, cond, List, [], ◌∷◌, ◌++◌, ℕ, zero, suc, ◌+◌, ◌-◌, ◌*◌, ◌/◌, ◌%◌, ◌^◌, leb, length, get_or}
-use Rattle.bits.specs.declared.Field.{Field}
+use Rattle.std.specs.Prelude.{Bool, ◌&&◌, cond, List, [], ◌∷◌, ◌++◌, ℕ, zero, suc, ◌+◌, ◌-◌, ◌*◌, ◌/◌, ◌%◌, ◌^◌, leb, length, get_or, Some, None, Option}
 
 -- the number that `w` bits make from bit `at` on, the first of them the most significant
 unfoldable pub number_from : (ℕ → ℕ) → ℕ → ℕ → ℕ
@@ -24,8 +23,8 @@ abbrev pub widest : ℕ
 widest = 48
 
 -- "a field that isn't wholly there" is an answer of its own; no field is wider than the widest
-unfoldable pub field_at : List ℕ → ℕ → ℕ → Field
-field_at s at w = cond (leb w widest && wholly s at w) (Field.There (bits_at s at w)) Field.Missing
+unfoldable pub field_at : List ℕ → ℕ → ℕ → Option ℕ
+field_at s at w = cond (leb w widest && wholly s at w) (Some (bits_at s at w)) None
 
 -- a field to be packed: how many bits wide, and the number that it holds
 pub record Part : Type 0 where

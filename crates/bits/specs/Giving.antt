@@ -1,11 +1,10 @@
 -- What reading gives where nothing is refused: a law about each way to put a reading together.
-use Rattle.std.specs.Prelude.{List, ◌≡◌, refl, ℕ, ◌+◌, ◌*◌, eqb, length}
+use Rattle.std.specs.Prelude.{List, ◌≡◌, refl, ℕ, ◌+◌, ◌*◌, eqb, length, Ok, Err, Some, None, Option}
 use Rattle.std.proofs.Common.{subst₂, arith, eqb-true}
 use Rattle.refusals.specs.declared.Refusal.{Refusal}
-use Rattle.refusals.specs.declared.Answer.{Answer}
+use Rattle.refusals.specs.Answers.{Answer}
 use Rattle.refusals.specs.Numbering.{unless}
 use Rattle.refusals.specs.Accepting.{unless_accepted}
-use Rattle.bits.specs.declared.Field.{Field}
 use Rattle.bits.specs.Bits.{field_at}
 use Rattle.bits.specs.Reading.{Got, got, refused, onward, judged, taken, field, ended}
 
@@ -33,20 +32,20 @@ gives_onward {m = refused r} h = gives_refused
 
 -- a value that is judged, and then another reading
 gives_judged : {A B : Type 0} (answer : Answer) (a : A) (next : ℕ) (f : A → ℕ → Got B) {P : B → ℕ → Type 0}
-    → (answer ≡ Answer.Accepted → Gives (f a next) P) → Gives (onward (judged answer a next) f) P
-gives_judged Answer.Accepted a next f h = h refl
-gives_judged (Answer.Refused r) a next f h = gives_refused
+    → (answer ≡ Ok tt → Gives (f a next) P) → Gives (onward (judged answer a next) f) P
+gives_judged (Ok _) a next f h = h refl
+gives_judged (Err r) a next f h = gives_refused
 
 -- what a field's answer leads to, and then another reading
-gives_taken : {B : Type 0} (cut : Refusal) (judge : ℕ → Answer) (next : ℕ) (there : Field) (f : ℕ → ℕ → Got B) {P : B → ℕ → Type 0}
-    → ((v : ℕ) → there ≡ Field.There v → judge v ≡ Answer.Accepted → Gives (f v next) P)
+gives_taken : {B : Type 0} (cut : Refusal) (judge : ℕ → Answer) (next : ℕ) (there : Option ℕ) (f : ℕ → ℕ → Got B) {P : B → ℕ → Type 0}
+    → ((v : ℕ) → there ≡ Some v → judge v ≡ Ok tt → Gives (f v next) P)
     → Gives (onward (taken cut judge next there) f) P
-gives_taken cut judge next Field.Missing f h = gives_refused
-gives_taken cut judge next (Field.There v) f h = gives_judged (judge v) v next f (h v refl)
+gives_taken cut judge next None f h = gives_refused
+gives_taken cut judge next (Some v) f h = gives_judged (judge v) v next f (h v refl)
 
 -- a field and then another reading: the field was there and was judged good, and reading goes on after it
 pub gives_field : {B : Type 0} (s : List ℕ) (at w : ℕ) (cut : Refusal) (judge : ℕ → Answer) (f : ℕ → ℕ → Got B) {P : B → ℕ → Type 0}
-    → ((v : ℕ) → field_at s at w ≡ Field.There v → judge v ≡ Answer.Accepted → Gives (f v (at + w)) P)
+    → ((v : ℕ) → field_at s at w ≡ Some v → judge v ≡ Ok tt → Gives (f v (at + w)) P)
     → Gives (onward (field cut w judge s at) f) P
 gives_field s at w cut judge f h = gives_taken cut judge (at + w) (field_at s at w) f h
 

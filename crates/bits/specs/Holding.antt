@@ -1,6 +1,5 @@
 -- Bytes that hold fields, one after another.
-use Rattle.std.specs.Prelude.{List, [], ◌∷◌, ◌≡◌, ℕ, ◌+◌, ◌<◌, ◌≤◌, ◌^◌, length, get_or}
-use Rattle.bits.specs.declared.Field.{Field}
+use Rattle.std.specs.Prelude.{List, [], ◌∷◌, ◌≡◌, ℕ, ◌+◌, ◌<◌, ◌≤◌, ◌^◌, length, get_or, Some}
 use Rattle.bits.specs.Bits.{Part, field_at, widest}
 
 -- every byte is one: every slice of bytes has this
@@ -31,4 +30,4 @@ fitting_narrow (p ∷ ps) fits = (fits.0, fitting_narrow ps fits.1.1)
 -- the fields stand one after another from bit `at` on
 unfoldable pub Holds : List ℕ → ℕ → List Part → Type 0
 Holds s at [] = Unit
-Holds s at (p ∷ ps) = (field_at s at p.wide ≡ Field.There p.is) × Holds s (at + p.wide) ps
+Holds s at (p ∷ ps) = (field_at s at p.wide ≡ Some p.is) × Holds s (at + p.wide) ps

@@ -1,6 +1,5 @@
 -- Fields in and out at an example: the head of document 01's recorded script.
-use Rattle.std.specs.Prelude.{List, [], ◌∷◌, map, ◌≡◌, refl, ℕ, ◌^◌, ◌-◌, pos, negsuc}
-use Rattle.bits.specs.declared.Field.{Field}
+use Rattle.std.specs.Prelude.{List, [], ◌∷◌, map, ◌≡◌, refl, ℕ, ◌^◌, ◌-◌, pos, negsuc, Some, None}
 use Rattle.bits.specs.Bits.{Part, field_at, bits_of_all, bytes_of, the_bits}
 use Rattle.bits.specs.Twos.{signed, unsigned, the_twos}
 
@@ -25,7 +24,7 @@ head_packed = refl
 
 -- the same fields, taken again; and one that isn't wholly there
 pub head_taken : field_at head_bytes 0 8 ∷ field_at head_bytes 8 8 ∷ field_at head_bytes 16 6 ∷ field_at head_bytes 22 6 ∷ field_at head_bytes 28 5 ∷ []
-    ≡ Field.There 1 ∷ Field.There 4 ∷ Field.There 1 ∷ Field.There 0 ∷ Field.Missing ∷ []
+    ≡ Some 1 ∷ Some 4 ∷ Some 1 ∷ Some 0 ∷ None ∷ []
 unfolding the_bits
 head_taken = refl
 

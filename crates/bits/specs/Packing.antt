@@ -1,8 +1,7 @@
 -- Fields packed without gaps and taken again: what is packed is held, and what is held was packed.
-use Rattle.std.specs.Prelude.{List, [], ◌∷◌, ◌++◌, ◌≡◌, ℕ, suc, ◌+◌, ◌-◌, ◌*◌, ◌/◌, ◌%◌, ◌^◌, ◌<◌, ◌≤◌, length, get_or, take}
+use Rattle.std.specs.Prelude.{List, [], ◌∷◌, ◌++◌, ◌≡◌, ℕ, suc, ◌+◌, ◌-◌, ◌*◌, ◌/◌, ◌%◌, ◌^◌, ◌<◌, ◌≤◌, length, get_or, take, Some}
 use Rattle.std.proofs.Common.{sym, ◌∙◌, ap, ap₂, add_assoc, zero-add, add-zero, mod-eq_of_lt, arith, length-append, ext_get_or, length-take-le, get_or-take, pow_pos}
 use Rattle.std.proofs.Math.ListN.{get_or-append, get_or-eq_default}
-use Rattle.bits.specs.declared.Field.{Field}
 use Rattle.bits.specs.Bits.{Part, number_from, bit_at, field_at, bits_of_all, bytes_from, bytes_of, padding_at}
 use Rattle.bits.specs.Digits.{Bitwise, bit_lt, number_lt, number_same, number_bit, number_of_bits}
 use Rattle.bits.specs.Fields.{there_ends, there_is, there_if}
@@ -121,7 +120,7 @@ pub holds_bits : (s : List ℕ) (at : ℕ) (ps : List Part) → Fitting ps → a
 unfolding Fitting Holds width_of_all
 holds_bits s at [] fits room bits = tt
 holds_bits s at (p ∷ ps) fits room bits = (
-  there_if s at p.wide fits.0 (omega arith) ∙ ap Field.There number,
+  there_if s at p.wide fits.0 (omega arith) ∙ ap Some number,
   holds_bits s (at + p.wide) ps fits.1.1 (omega arith) later,
 )
   where
@@ -140,7 +139,7 @@ packed_holds ps rest fits =
 
 -- and its padding is zero
 pub packed_padding : (ps : List Part) (rest : List ℕ)
-    → field_at (bytes_of (bits_of_all ps) ++ rest) (width_of_all ps) (padding_at (width_of_all ps)) ≡ Field.There 0
+    → field_at (bytes_of (bits_of_all ps) ++ rest) (width_of_all ps) (padding_at (width_of_all ps)) ≡ Some 0
 unfolding Fitting Holds width_of_all bits_of_all
 packed_padding ps rest =
     (holds_bits (bytes_of (bits_of_all ps) ++ rest) n (zeros (padding_at n) ∷ [])
@@ -210,7 +209,7 @@ begins_packed s ps bytes room bits = ext_get_or 0 (take n s) (bytes_of (bits_of_
         ∙ sym (packed_byte ps i h)
 
 -- bytes that hold the fields and zero padding begin with the packed fields
-pub held_packed : (s : List ℕ) (ps : List Part) → Bytes s → Holds s 0 ps → field_at s (width_of_all ps) (padding_at (width_of_all ps)) ≡ Field.There 0
+pub held_packed : (s : List ℕ) (ps : List Part) → Bytes s → Holds s 0 ps → field_at s (width_of_all ps) (padding_at (width_of_all ps)) ≡ Some 0
     → take ((width_of_all ps + 7) / 8) s ≡ bytes_of (bits_of_all ps)
 unfolding Holds
 held_packed s ps bytes held padding =

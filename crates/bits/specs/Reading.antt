@@ -1,11 +1,10 @@
 -- "Reading goes from front to back and the first fault decides": one field after another, each judged before the next is taken.
-use Rattle.std.specs.Prelude.{Bool, true, false, List, ◌≡◌, refl, ℕ, ◌+◌, ◌*◌, eqb, length}
+use Rattle.std.specs.Prelude.{Bool, true, false, List, ◌≡◌, refl, ℕ, ◌+◌, ◌*◌, eqb, length, Ok, Err, Some, None, Option}
 use Rattle.std.proofs.Common.{sym}
 use Rattle.replies.specs.Plain.{never}
 use Rattle.refusals.specs.declared.Refusal.{Refusal}
-use Rattle.refusals.specs.declared.Answer.{Answer}
+use Rattle.refusals.specs.Answers.{Answer}
 use Rattle.refusals.specs.Numbering.{unless}
-use Rattle.bits.specs.declared.Field.{Field}
 use Rattle.bits.specs.Bits.{field_at, padding_at}
 
 infixl 20 ◌>>=◌
@@ -38,8 +37,8 @@ abbrev pub ◌>>=◌ : {A B : Type 0} → Reading A → (A → Reading B) → Re
 
 -- a value that was read is kept unless it is refused
 abbrev pub judged : {A : Type 0} → Answer → A → ℕ → Got A
-judged Answer.Accepted a next = got a next
-judged (Answer.Refused r) a next = refused r
+judged (Ok _) a next = got a next
+judged (Err r) a next = refused r
 
 -- a number that is refused stops all that follows
 pub stops : {B : Type 0} (b : Bool) (r : Refusal) (v next : ℕ) (f : ℕ → ℕ → Got B) → b ≡ false → onward (judged (unless b r) v next) f ≡ refused r
@@ -48,13 +47,13 @@ stops true r v next f e = never (sym e)
 
 -- whether reading went through
 abbrev pub answered : {A : Type 0} → Got A → Answer
-answered (got a next) = Answer.Accepted
-answered (refused r) = Answer.Refused r
+answered (got a next) = Ok tt
+answered (refused r) = Err r
 
 -- what a field's answer leads to: `cut` where it isn't wholly there, else what is thought of its number
-abbrev pub taken : Refusal → (ℕ → Answer) → ℕ → Field → Got ℕ
-taken cut judge next Field.Missing = refused cut
-taken cut judge next (Field.There v) = judged (judge v) v next
+abbrev pub taken : Refusal → (ℕ → Answer) → ℕ → Option ℕ → Got ℕ
+taken cut judge next None = refused cut
+taken cut judge next (Some v) = judged (judge v) v next
 
 -- a field of `w` bits: `cut` where it isn't wholly there, then judged
 abbrev pub field : Refusal → ℕ → (ℕ → Answer) → Reading ℕ
@@ -62,7 +61,7 @@ field cut w judge = λ s at. taken cut judge (at + w) (field_at s at w)
 
 -- any number will do
 abbrev pub whatever : ℕ → Answer
-whatever v = Answer.Accepted
+whatever v = Ok tt
 
 -- "Zero bits up to a whole byte."
 abbrev pub padding : Refusal → Refusal → Reading ℕ

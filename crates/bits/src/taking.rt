@@ -2,7 +2,6 @@
 ghost use Rattle.std.specs.Prelude.{◌≡◌, ◌+◌, ◌*◌, ◌≤◌, length};
 ghost use Rattle.bits.specs.Bits.{bits_at, field_at};
 
-use crate::Field;
 use crate::wide::{base_of, eight};
 use crate::window::{has_room, window_of};
 
@@ -43,22 +42,22 @@ fn taken(s: &[u8], at: usize, w: usize) -> u64
 }
 
 // The field of `w` bits from bit `at` on, or the answer that it isn't wholly there.
-pub fn field_at(s: &[u8], at: usize, w: usize) -> Field
+pub fn field_at(s: &[u8], at: usize, w: usize) -> Option<u64>
     ensures { result ≡ field_at s.now at w }
 {
     if has_room(s.len(), at, w) {
-        Field::There(taken(s, at, w))
+        Some(taken(s, at, w))
     } else {
-        Field::Missing
+        None
     }
 }
 
 // The field that byte `i` is, or the answer that it isn't there.
-pub fn byte_at(s: &[u8], i: usize) -> Field
+pub fn byte_at(s: &[u8], i: usize) -> Option<u64>
     ensures { result ≡ field_at s.now (8 * i) 8 }
 {
     if s.len() <= i {
-        return Field::Missing;
+        return None;
     }
-    Field::There(s[i] as u64)
+    Some(s[i] as u64)
 }

@@ -2,12 +2,12 @@
 use Rattle.std.specs.Prelude.{true, ◌≡◌, T}
 use mathlib.Core.List.{List, [], ◌∷◌}
 use Rattle.std.proofs.Math.Path.{refl, sym, ap}
-use Rattle.std.proofs.Common.{◌∙◌, arith}
+use Rattle.std.proofs.Common.{◌∙◌, arith, Ok, Err}
 use Prim.Native.Nat.{ℕ, suc}
 use Rattle.std.proofs.Math.ListN.{length, replicate}
 use Rattle.values.specs.declared.Outcome.{Outcome}
 use Rattle.values.specs.declared.Slot.{Slot}
-use Rattle.refusals.specs.declared.Answer.{Answer}
+use Rattle.refusals.specs.Answers.{Answer}
 use Rattle.bits.specs.Reading.{Got, got, refused, answered}
 use Rattle.table.specs.declared.Table.{Table}
 use Rattle.table.specs.Faults.{table_fault}
@@ -55,7 +55,7 @@ module _ (machine : Machine) (t : Table) (k : ℕ) where
 
   module _ (alike : SameResults machine t) where
     -- once a step is accepted, every accepted step gives what it gives
-    all_alike : (first : List (List ℕ)) (step : List ℕ) → (reply_to machine t first step).answer ≡ Answer.Accepted → (offered : List (List ℕ))
+    all_alike : (first : List (List ℕ)) (step : List ℕ) → (reply_to machine t first step).answer ≡ Ok tt → (offered : List (List ℕ))
         → given_to machine t k offered ≡ replicate (length (given_to machine t k offered)) (giving first step)
     unfolding given_to
     all_alike first step accepted [] = refl
@@ -63,8 +63,8 @@ module _ (machine : Machine) (t : Table) (k : ℕ) where
       where
         by : (a : Answer) → (reply_to machine t before bytes).answer ≡ a → given_to machine t k before ≡ replicate (length (given_to machine t k before)) (giving first step)
             → given_if a (giving before bytes) (given_to machine t k before) ≡ replicate (length (given_if a (giving before bytes) (given_to machine t k before))) (giving first step)
-        by Answer.Accepted e same = λ i. ap (λ (results : List Slot). result_in results k) (alike before first bytes step e accepted) i ∷ same i
-        by (Answer.Refused r) e same = same
+        by (Ok _) e same = λ i. ap (λ (results : List Slot). result_in results k) (alike before first bytes step e accepted) i ∷ same i
+        by (Err r) e same = same
 
     -- so two streams of as many accepted steps are given the same
     as_many : (a b : List (List ℕ)) → length (given_to machine t k a) ≡ length (given_to machine t k b) → given_to machine t k a ≡ given_to machine t k b
@@ -76,11 +76,11 @@ module _ (machine : Machine) (t : Table) (k : ℕ) where
             → (length (given_to machine t k before) ≡ length (given_to machine t k b) → given_to machine t k before ≡ given_to machine t k b)
             → length (given_if a (giving before bytes) (given_to machine t k before)) ≡ length (given_to machine t k b)
             → given_if a (giving before bytes) (given_to machine t k before) ≡ given_to machine t k b
-        by Answer.Accepted e earlier same =
+        by (Ok _) e earlier same =
             (λ i. giving before bytes ∷ all_alike before bytes e before i)
             ∙ ap (λ (n : ℕ). replicate n (giving before bytes)) same
             ∙ sym (all_alike before bytes e b)
-        by (Answer.Refused r) e earlier same = earlier same
+        by (Err r) e earlier same = earlier same
 
 -- "gives every step the same results": whatever the reach shows, it agrees
 pub same_results_agree : (machine : Machine) (t : Table) → AnswersAsDefined machine t → SameResults machine t → (reacher : Reacher) → SameInTheMonitor machine reacher t
@@ -99,7 +99,7 @@ agree_less a b imports clock (x ∷ g) (y ∷ h) agree = (
 )
 
 -- "A reach that marks everything" agrees, and only "least" stops it
-pub everything_agrees : (reacher : Reacher) (t : Table) → table_fault t ≡ Answer.Accepted → MarksEverything reacher t → SameInTheLogic reacher t
+pub everything_agrees : (reacher : Reacher) (t : Table) → table_fault t ≡ Ok tt → MarksEverything reacher t → SameInTheLogic reacher t
 everything_agrees reacher t good everything k there a b agree =
     let all : Entries = λ j. true in
     same_results t good all (λ j o hj ho held led. tt) (history_of t a) (history_of t b)

@@ -1,7 +1,7 @@
 -- Demand 3 follows from demand 2 and the least set: proved of every machine that knows the history and every reach that shows the least set, so of ours.
 use Rattle.std.specs.Prelude.{List, [], ◌∷◌, ◌≡◌, refl, ℕ}
-use Rattle.std.proofs.Common.{sym, ◌∙◌, ap}
-use Rattle.refusals.specs.declared.Answer.{Answer}
+use Rattle.std.proofs.Common.{sym, ◌∙◌, ap, Ok}
+use Rattle.refusals.specs.Answers.{Answer}
 use Rattle.bits.specs.Reading.{Got, got, refused, answered}
 use Rattle.table.specs.declared.Table.{Table}
 use Rattle.table.specs.Faults.{table_fault}
@@ -41,10 +41,10 @@ given_logic machine t says answers k (bytes ∷ before) = by (heard t before byt
 pub least_suffices : (machine : Machine) → KnowsTheHistory machine → (reacher : Reacher) → ShowsTheLeast reacher → DependsOnReach machine reacher
 least_suffices machine knows reacher least = record { least = least; logic = λ t shaped good. in_logic t good; monitor = in_monitor }
   where
-    in_logic : (t : Table) → table_fault t ≡ Answer.Accepted → SameInTheLogic reacher t
+    in_logic : (t : Table) → table_fault t ≡ Ok tt → SameInTheLogic reacher t
     in_logic t good k there a b = shown_same t good k there (reacher t k) (shown reacher least t good k there) (history_of t a) (history_of t b)
 
-    in_monitor : (t : Table) → Shaped t → table_fault t ≡ Answer.Accepted → SameInTheMonitor machine reacher t
+    in_monitor : (t : Table) → Shaped t → table_fault t ≡ Ok tt → SameInTheMonitor machine reacher t
     in_monitor t shaped good k there a b agree =
         let known = knows.sound t shaped good in
         given_logic machine t known.results known.answers k a

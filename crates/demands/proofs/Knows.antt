@@ -2,10 +2,9 @@
 use mathlib.Core.List.{List, [], ◌∷◌}
 use Rattle.std.specs.Prelude.{◌≡◌, ℕ}
 use Rattle.std.proofs.Math.Path.{refl, sym, ap}
-use Rattle.std.proofs.Common.{◌∙◌}
+use Rattle.std.proofs.Common.{◌∙◌, Ok, Err}
 use Rattle.values.specs.declared.Slot.{Slot}
 use Rattle.refusals.specs.declared.Refusal.{Refusal}
-use Rattle.refusals.specs.declared.Answer.{Answer}
 use Rattle.bits.specs.Reading.{Got, got, refused}
 use Rattle.table.specs.declared.Table.{Table}
 use Rattle.table.specs.Tables.{Shaped, empty_table}
@@ -49,13 +48,13 @@ unfolding step_of unsound the_faults
 nothing_there bytes = refl
 
 -- a table at fault
-pub ours_at_fault : (t : Table) (r : Refusal) → table_fault t ≡ Answer.Refused r → Refuses our_machine t
+pub ours_at_fault : (t : Table) (r : Refusal) → table_fault t ≡ Err r → Refuses our_machine t
 unfolding start_on unsound_table
 ours_at_fault t r bad =
-    let start : start_on t ≡ record { answer = Answer.Refused Refusal.Unsound; monitor = fresh empty_table } = ap (λ a. start_reply (as_unsound a) t) bad in
+    let start : start_on t ≡ record { answer = Err Refusal.Unsound; monitor = fresh empty_table } = ap (λ a. start_reply (as_unsound a) t) bad in
     record { start = start; steps = λ bytes. ap (λ (x : Started). our_machine.step x.monitor bytes) start ∙ nothing_there bytes ∙ ap (λ (x : Started). refused_step Refusal.Unsound x.monitor) (sym start) }
 
-module _ (t : Table) (shaped : Shaped t) (good : table_fault t ≡ Answer.Accepted) where
+module _ (t : Table) (shaped : Shaped t) (good : table_fault t ≡ Ok tt) where
   -- after any strings, the monitor is the one that the history leaves
   knows_after : (offered : List (List ℕ)) → after our_machine t offered ≡ recall_of t (history_of t offered)
   unfolding after history_of

@@ -1,8 +1,7 @@
 -- Lazy builds that meet part of a demand, and the statement that stops each.
-use Rattle.std.specs.Prelude.{[], ◌≡◌, refl, ℕ}
+use Rattle.std.specs.Prelude.{[], ◌≡◌, refl, ℕ, Err}
 use Rattle.std.proofs.Common.{◌∙◌, ap, arith}
 use Rattle.refusals.specs.declared.Refusal.{Refusal}
-use Rattle.refusals.specs.declared.Answer.{Answer}
 use Rattle.bits.specs.Bits.{the_bits}
 use Rattle.bits.specs.Twos.{the_twos}
 use Rattle.table.specs.Tables.{Shaped, empty_table}
@@ -18,7 +17,7 @@ use Rattle.demands.specs.Scripts.{Build, read_as, filled, ScriptsReturn, TablesR
 abbrev pub refuses_all : Build
 refuses_all =
     record {
-      read = λ s. record { answer = Answer.Refused Refusal.Format; table = empty_table };
+      read = λ s. record { answer = Err Refusal.Format; table = empty_table };
       block = λ s. [];
       write = ours.write;
       written = ours.written;
@@ -48,7 +47,7 @@ refuses_both =
     record {
       read = refuses_all.read;
       block = refuses_all.block;
-      write = λ t block destination. record { answer = Answer.Refused Refusal.NoRoom; size = 0 };
+      write = λ t block destination. record { answer = Err Refusal.NoRoom; size = 0 };
       written = λ t block destination. destination;
     }
 

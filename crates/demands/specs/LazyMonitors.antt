@@ -1,11 +1,11 @@
 -- Lazy monitors, and the statement that stops each: every start and step with the fault named is stopped, not one example of it.
-use Rattle.std.specs.Prelude.{true, false, List, [], ◌∷◌, ◌≡◌, refl, ℕ, ◌+◌, ◌^◌}
+use Rattle.std.specs.Prelude.{true, false, List, [], ◌∷◌, ◌≡◌, refl, ℕ, ◌+◌, ◌^◌, Ok, Err}
 use Rattle.std.proofs.Common.{sym, ◌∙◌, ap, arith}
 use Rattle.values.specs.declared.Truth.{Truth}
 use Rattle.values.specs.declared.Outcome.{Outcome}
 use Rattle.values.specs.declared.Slot.{Slot}
 use Rattle.refusals.specs.declared.Refusal.{Refusal}
-use Rattle.refusals.specs.declared.Answer.{Answer}
+use Rattle.refusals.specs.Answers.{Answer}
 use Rattle.bits.specs.Bits.{the_bits}
 use Rattle.bits.specs.Twos.{the_twos}
 use Rattle.bits.specs.Reading.{answered}
@@ -50,7 +50,7 @@ unfolding the_bits the_twos the_faults the_step the_logic offered history_of
 start_once = (refl, (refl, refl))
 
 -- each is accepted
-each_heard : (answered (heard start_and_end [] true_at1) ≡ Answer.Accepted) × (answered (heard start_and_end (true_at1 ∷ []) true_at2) ≡ Answer.Accepted)
+each_heard : (answered (heard start_and_end [] true_at1) ≡ Ok tt) × (answered (heard start_and_end (true_at1 ∷ []) true_at2) ≡ Ok tt)
 unfolding the_bits the_twos the_faults the_step the_logic offered history_of
 each_heard = (refl, refl)
 
@@ -65,8 +65,8 @@ gives machine t says before bytes k = ap (λ (results : List Slot). result_in re
 
 -- "works at the first step and repeats itself after"
 abbrev pub RepeatsTheFirst : Machine → Table → Type 0
-RepeatsTheFirst machine t = (first next : List ℕ) → (reply_to machine t [] first).answer ≡ Answer.Accepted
-    → (reply_to machine t (first ∷ []) next).answer ≡ Answer.Accepted → (reply_to machine t (first ∷ []) next).results ≡ (reply_to machine t [] first).results
+RepeatsTheFirst machine t = (first next : List ℕ) → (reply_to machine t [] first).answer ≡ Ok tt
+    → (reply_to machine t (first ∷ []) next).answer ≡ Ok tt → (reply_to machine t (first ∷ []) next).results ≡ (reply_to machine t [] first).results
 
 pub repeats_stopped : (machine : Machine) → SaysTheLogic machine start_and_end → AnswersAsDefined machine start_and_end → RepeatsTheFirst machine start_and_end → ⊥
 repeats_stopped machine says answers repeats =
@@ -75,8 +75,8 @@ repeats_stopped machine says answers repeats =
 
 -- "gives every step the same results"
 abbrev pub SameResults : Machine → Table → Type 0
-SameResults machine t = (before later : List (List ℕ)) (x y : List ℕ) → (reply_to machine t before x).answer ≡ Answer.Accepted
-    → (reply_to machine t later y).answer ≡ Answer.Accepted → (reply_to machine t before x).results ≡ (reply_to machine t later y).results
+SameResults machine t = (before later : List (List ℕ)) (x y : List ℕ) → (reply_to machine t before x).answer ≡ Ok tt
+    → (reply_to machine t later y).answer ≡ Ok tt → (reply_to machine t before x).results ≡ (reply_to machine t later y).results
 
 pub same_results_stopped : (machine : Machine) → SaysTheLogic machine start_and_end → AnswersAsDefined machine start_and_end → SameResults machine start_and_end → ⊥
 same_results_stopped machine says answers same =
@@ -95,15 +95,15 @@ does_nothing_stopped machine says nothing =
 
 -- "A start ... that leaves a monitor which then refuses everything"
 abbrev pub StuckAfterStart : Machine → Table → Type 0
-StuckAfterStart machine t = (bytes : List ℕ) → (reply_to machine t [] bytes).answer ≡ Answer.Accepted → ⊥
+StuckAfterStart machine t = (bytes : List ℕ) → (reply_to machine t [] bytes).answer ≡ Ok tt → ⊥
 
 pub stuck_start_stopped : (machine : Machine) → AnswersAsDefined machine start_and_end → StuckAfterStart machine start_and_end → ⊥
 stuck_start_stopped machine answers stuck = stuck true_at1 (answers [] true_at1 ∙ each_heard.0)
 
 -- "or a step that leaves a monitor which then refuses everything": an accepted step
 abbrev pub StuckAfterStep : Machine → Table → Type 0
-StuckAfterStep machine t = (first next : List ℕ) → (reply_to machine t [] first).answer ≡ Answer.Accepted
-    → (reply_to machine t (first ∷ []) next).answer ≡ Answer.Accepted → ⊥
+StuckAfterStep machine t = (first next : List ℕ) → (reply_to machine t [] first).answer ≡ Ok tt
+    → (reply_to machine t (first ∷ []) next).answer ≡ Ok tt → ⊥
 
 pub stuck_step_stopped : (machine : Machine) → AnswersAsDefined machine start_and_end → StuckAfterStep machine start_and_end → ⊥
 stuck_step_stopped machine answers stuck = stuck true_at1 true_at2 (answers [] true_at1 ∙ each_heard.0) (answers (true_at1 ∷ []) true_at2 ∙ each_heard.1)
@@ -124,12 +124,12 @@ jams_at_step =
       step = λ m bytes. record { answer = (step_of m bytes).answer; monitor = jammed (step_of m bytes).monitor; results = (step_of m bytes).results };
     }
 
-jams : (unsound (after jams_at_start start_and_end []) ≡ Answer.Refused Refusal.Unsound) × (unsound (after jams_at_step start_and_end (true_at1 ∷ [])) ≡ Answer.Refused Refusal.Unsound)
+jams : (unsound (after jams_at_start start_and_end []) ≡ Err Refusal.Unsound) × (unsound (after jams_at_step start_and_end (true_at1 ∷ [])) ≡ Err Refusal.Unsound)
 unfolding the_bits the_twos the_faults the_step the_keeping the_stepping after
 jams = (refl, refl)
 
 -- accepted or refused
-not_refused : {a : Answer} {r : Refusal} → a ≡ Answer.Accepted → a ≡ Answer.Refused r → ⊥
+not_refused : {a : Answer} {r : Refusal} → a ≡ Ok tt → a ≡ Err r → ⊥
 not_refused accepted refused = let z : ◌≡◌ {A = ℕ} 0 1 = cc in omega arith
 
 pub jams_stopped : (NeverUnsound jams_at_start start_and_end → ⊥) × (NeverUnsound jams_at_step start_and_end → ⊥)
@@ -137,13 +137,13 @@ jams_stopped = (λ never. not_refused (never []) jams.0, λ never. not_refused (
 
 -- a machine whose results, at every accepted step, are those of another judge than document 01's; a refused step may have any
 abbrev pub JudgesBy : Judge → Machine → Table → Type 0
-JudgesBy by machine t = (before : List (List ℕ)) (bytes : List ℕ) (k : ℕ) → answered (heard t before bytes) ≡ Answer.Accepted
+JudgesBy by machine t = (before : List (List ℕ)) (bytes : List ℕ) (k : ℕ) → answered (heard t before bytes) ≡ Ok tt
     → result_in (reply_to machine t before bytes).results k ≡ result_by by t (history_of t (bytes ∷ before)) k
 
 -- "false at the first step: end occurs"; where undefined is taken for false, it does not
 end_at_once : (said_of start_and_end [] false_at1 2 ≡ Outcome.Event true)
     × ((result_by undefined_for_false start_and_end (history_of start_and_end (false_at1 ∷ [])) 2 ≡ Outcome.Event false)
-    × (answered (heard start_and_end [] false_at1) ≡ Answer.Accepted))
+    × (answered (heard start_and_end [] false_at1) ≡ Ok tt))
 unfolding the_bits the_twos the_faults the_step the_logic offered history_of undefined_for_false
 end_at_once = (refl, (refl, refl))
 
@@ -165,7 +165,7 @@ second_closing = 0x00 ∷ 0x00 ∷ 0x00 ∷ 0x03 ∷ 0x0D ∷ 0x40 ∷ 0x08 ∷ 
 -- the gate has only just been told to close; a read that sees no update of this step calls it late
 gate_in_time : (said_of gate earlier_steps second_closing 16 ≡ Outcome.Property Truth.True)
     × ((result_by updates_last gate (history_of gate (second_closing ∷ earlier_steps)) 16 ≡ Outcome.Property Truth.False)
-    × (answered (heard gate earlier_steps second_closing) ≡ Answer.Accepted))
+    × (answered (heard gate earlier_steps second_closing) ≡ Ok tt))
 unfolding the_bits the_twos the_faults the_step the_logic offered history_of updates_last
 gate_in_time = (refl, (refl, refl))
 

@@ -1,11 +1,11 @@
 -- Lazy and misled reaches, and the statement that stops each: every reach with the fault named is stopped, not one example of it.
-use Rattle.std.specs.Prelude.{Bool, true, false, ◌&&◌, List, [], ◌∷◌, ◌≡◌, refl, ℕ, zero, suc, ◌<◌, T, eqb, pos, get_or}
+use Rattle.std.specs.Prelude.{Bool, true, false, ◌&&◌, List, [], ◌∷◌, ◌≡◌, refl, ℕ, zero, suc, ◌<◌, T, eqb, pos, get_or, Ok}
 use Rattle.std.proofs.Math.Bool.{and-false}
 use Rattle.std.proofs.Common.{sym, ◌∙◌, subst, arith, lit<, lt-ltb}
 use Rattle.std.proofs.Math.Dec.{eqb-suc-zero}
 use Rattle.values.specs.declared.Number.{Number}
 use Rattle.values.specs.declared.Outcome.{Outcome}
-use Rattle.refusals.specs.declared.Answer.{Answer}
+use Rattle.refusals.specs.Answers.{Answer}
 use Rattle.bits.specs.Bits.{the_bits}
 use Rattle.bits.specs.Twos.{the_twos}
 use Rattle.table.specs.declared.Entry.{Entry}
@@ -27,10 +27,10 @@ use Rattle.cases.proofs.Differing.{wrong_least, reading_4_differs}
 use Rattle.demands.specs.Reaches.{Reacher, ShowsTheLeast, SameInTheLogic}
 
 -- what a reach that shows the least set shows of an entry of a sound table
-pub shown : (reacher : Reacher) → ShowsTheLeast reacher → (t : Table) → table_fault t ≡ Answer.Accepted → (k : ℕ) → k < t.n → Shows t k (reacher t k)
+pub shown : (reacher : Reacher) → ShowsTheLeast reacher → (t : Table) → table_fault t ≡ Ok tt → (k : ℕ) → k < t.n → Shows t k (reacher t k)
 unfolding reach_fault unsound_table
 shown reacher least t good k there =
-    let asked : reach_fault t k ≡ Answer.Accepted = rw (good, lt-ltb k t.n there) refl in
+    let asked : reach_fault t k ≡ Ok tt = rw (good, lt-ltb k t.n there) refl in
     (subst (λ (a : Answer). ReachReply t k a (reacher t k)) asked (least t k)).1
 
 -- an event import and the time of its latest occurrence
@@ -44,7 +44,7 @@ pub record MarksEverything (reacher : Reacher) (t : Table) : Type 0 where
   pub clock : (k : ℕ) → k < t.n → T (reacher t k).clock
 
 -- the tables that are used here are sound
-each_sound : (table_fault start_and_end ≡ Answer.Accepted) × ((table_fault read_then_update ≡ Answer.Accepted) × (table_fault timed ≡ Answer.Accepted))
+each_sound : (table_fault start_and_end ≡ Ok tt) × ((table_fault read_then_update ≡ Ok tt) × (table_fault timed ≡ Ok tt))
 unfolding the_faults
 each_sound = (refl, (refl, refl))
 

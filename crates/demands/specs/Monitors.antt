@@ -1,9 +1,8 @@
 -- Demand 1 for steps and demand 2's logic, stated over any start and step: "at every accepted step, each rule's result equals what the three-valued event and condition logic says of the whole accepted history".
-use Rattle.std.specs.Prelude.{List, [], ◌∷◌, ◌≡◌, ℕ, pos}
+use Rattle.std.specs.Prelude.{List, [], ◌∷◌, ◌≡◌, ℕ, pos, Ok, Err}
 use Rattle.values.specs.declared.Number.{Number}
 use Rattle.values.specs.declared.Slot.{Slot}
 use Rattle.refusals.specs.declared.Refusal.{Refusal}
-use Rattle.refusals.specs.declared.Answer.{Answer}
 use Rattle.bits.specs.Reading.{Got, got, refused, answered}
 use Rattle.table.specs.declared.Table.{Table}
 use Rattle.table.specs.Tables.{Shaped, empty_table}
@@ -66,7 +65,7 @@ AnswersAsDefined machine t = (before : List (List ℕ)) (bytes : List ℕ) → (
 
 -- (c) "started on a sound table it is never refused later": the monitor of a start or a step doesn't fall under 29
 abbrev pub NeverUnsound : Machine → Table → Type 0
-NeverUnsound machine t = (offered : List (List ℕ)) → unsound (after machine t offered) ≡ Answer.Accepted
+NeverUnsound machine t = (offered : List (List ℕ)) → unsound (after machine t offered) ≡ Ok tt
 
 -- (d) "a monitor that holds that table ...; an accepted step's monitor holds the same table and that step's time as the last"
 abbrev pub HoldsTableAndTime : Machine → Table → Type 0
@@ -78,7 +77,7 @@ RefusedChangeNothing machine t = (offered : List (List ℕ)) → after machine t
 
 -- what is asked of a machine on a sound table
 pub record Knows (machine : Machine) (t : Table) : Type 0 where
-  pub starts : (machine.start t).answer ≡ Answer.Accepted
+  pub starts : (machine.start t).answer ≡ Ok tt
   pub results : SaysTheLogic machine t
   pub answers : AnswersAsDefined machine t
   pub sound : NeverUnsound machine t
@@ -87,13 +86,13 @@ pub record Knows (machine : Machine) (t : Table) : Type 0 where
 
 -- "A start on a table at fault gives 29 and the monitor of the empty table, whose every step gives 29."
 pub record Refuses (machine : Machine) (t : Table) : Type 0 where
-  pub start : machine.start t ≡ record { answer = Answer.Refused Refusal.Unsound; monitor = fresh empty_table }
+  pub start : machine.start t ≡ record { answer = Err Refusal.Unsound; monitor = fresh empty_table }
   pub steps : (bytes : List ℕ) → machine.step (machine.start t).monitor bytes ≡ refused_step Refusal.Unsound (machine.start t).monitor
 
 -- demand 2 for the monitor, and demand 1 for steps: every table, sound or at fault, and every list of byte strings
 pub record KnowsTheHistory (machine : Machine) : Type 0 where
-  pub sound : (t : Table) → Shaped t → table_fault t ≡ Answer.Accepted → Knows machine t
-  pub at_fault : (t : Table) (r : Refusal) → table_fault t ≡ Answer.Refused r → Refuses machine t
+  pub sound : (t : Table) → Shaped t → table_fault t ≡ Ok tt → Knows machine t
+  pub at_fault : (t : Table) (r : Refusal) → table_fault t ≡ Err r → Refuses machine t
 
 -- the document's start and step; proofs/Ours.antt shows that our functions' contracts say just this
 abbrev pub our_machine : Machine

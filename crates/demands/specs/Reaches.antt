@@ -1,7 +1,7 @@
 -- Demand 3, stated over any machine and any reach: "Two streams that agree on what a rule reaches give it the same results, in the logic and in the monitor; the reach shown is the least set."
-use Rattle.std.specs.Prelude.{List, [], ◌∷◌, ◌≡◌, ℕ, ◌<◌}
+use Rattle.std.specs.Prelude.{List, [], ◌∷◌, ◌≡◌, ℕ, ◌<◌, Ok, Err}
 use Rattle.values.specs.declared.Outcome.{Outcome}
-use Rattle.refusals.specs.declared.Answer.{Answer}
+use Rattle.refusals.specs.Answers.{Answer}
 use Rattle.table.specs.declared.Table.{Table}
 use Rattle.table.specs.Tables.{Shaped}
 use Rattle.table.specs.Faults.{table_fault}
@@ -22,8 +22,8 @@ ShowsTheLeast reacher = (t : Table) (k : ℕ) → ReachReply t k (reach_fault t 
 
 -- a result is kept where the step was accepted
 abbrev pub given_if : Answer → Outcome → List Outcome → List Outcome
-given_if Answer.Accepted o earlier = o ∷ earlier
-given_if (Answer.Refused r) o earlier = earlier
+given_if (Ok _) o earlier = o ∷ earlier
+given_if (Err r) o earlier = earlier
 
 -- what a monitor gave a rule at every step that it accepted, from a fresh start; the latest first
 unfoldable pub given_to : Machine → Table → ℕ → List (List ℕ) → List Outcome
@@ -45,5 +45,5 @@ SameInTheMonitor machine reacher t = (k : ℕ) → k < t.n → (a b : List (List
 -- demand 3: every sound table, any entry of it for a rule, any two lists of byte strings
 pub record DependsOnReach (machine : Machine) (reacher : Reacher) : Type 0 where
   pub least : ShowsTheLeast reacher
-  pub logic : (t : Table) → Shaped t → table_fault t ≡ Answer.Accepted → SameInTheLogic reacher t
-  pub monitor : (t : Table) → Shaped t → table_fault t ≡ Answer.Accepted → SameInTheMonitor machine reacher t
+  pub logic : (t : Table) → Shaped t → table_fault t ≡ Ok tt → SameInTheLogic reacher t
+  pub monitor : (t : Table) → Shaped t → table_fault t ≡ Ok tt → SameInTheMonitor machine reacher t

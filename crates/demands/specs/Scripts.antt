@@ -1,9 +1,9 @@
 -- Demand 2 for scripts, stated over any reader and writer: "Script to table to script gives the same bytes; table and labels to script and back give the same table and labels."
-use Rattle.std.specs.Prelude.{List, ◌++◌, ◌≡◌, refl, ℕ, ◌≤◌, length, take, drop}
+use Rattle.std.specs.Prelude.{List, ◌++◌, ◌≡◌, refl, ℕ, ◌≤◌, length, take, drop, Ok, Err}
 use Rattle.std.proofs.Common.{sym, ◌∙◌, ap, arith}
 use Rattle.std.proofs.Math.Seq.{take-append_seam}
 use Rattle.refusals.specs.declared.Refusal.{Refusal}
-use Rattle.refusals.specs.declared.Answer.{Answer}
+use Rattle.refusals.specs.Answers.{Answer}
 use Rattle.bits.specs.Holding.{Bytes}
 use Rattle.bits.specs.Reading.{Got, got, refused}
 use Rattle.table.specs.declared.Table.{Table}
@@ -24,11 +24,11 @@ pub record Build : Type 0 where
 
 -- the reply of a script that is read as a table
 abbrev pub read_as : Table → Script
-read_as t = record { answer = Answer.Accepted; table = t }
+read_as t = record { answer = Ok tt; table = t }
 
 -- a write that fills so many bytes
 abbrev pub filled : ℕ → Written
-filled size = record { answer = Answer.Accepted; size = size }
+filled size = record { answer = Ok tt; size = size }
 
 -- "Script to table to script gives the same bytes": written with room for it, and all later bytes stay
 pub record ScriptsReturn (build : Build) : Type 0 where
@@ -57,11 +57,11 @@ reply_got (refused r) t e = let answer = ap (λ (x : Script). x.answer) e in let
 
 -- a write that filled bytes was accepted, and filled the script
 reply_accepted : (a : Answer) (script destination : List ℕ) (size : ℕ) → written_reply a (length script) ≡ filled size
-    → (a ≡ Answer.Accepted) × (take size (written_bytes a script destination) ≡ script)
-reply_accepted Answer.Accepted script destination size e =
+    → (a ≡ Ok tt) × (take size (written_bytes a script destination) ≡ script)
+reply_accepted (Ok _) script destination size e =
     let all : size ≡ length script = sym (ap (λ (x : Written). x.size) e) in
     (refl, ap (λ (n : ℕ). take n (script ++ drop (length script) destination)) all ∙ take-append_seam script (drop (length script) destination))
-reply_accepted (Answer.Refused r) script destination size e = let answer = ap (λ (x : Written). x.answer) e in let z : ◌≡◌ {A = ℕ} 0 1 = cc in absurd (omega arith)
+reply_accepted (Err r) script destination size e = let answer = ap (λ (x : Written). x.answer) e in let z : ◌≡◌ {A = ℕ} 0 1 = cc in absurd (omega arith)
 
 -- (b) a table and a block that the writer accepts, read again, are the same table and labels
 pub our_tables_return : TablesReturn ours
@@ -98,15 +98,15 @@ pub ours_as_defined : ReadsAsDefined ours
 ours_as_defined = record { same = λ s. refl }
 
 -- its refusals are those of the definition, with the empty table
-pub refused_as_defined : (s : List ℕ) (r : Refusal) → (read_script s).answer ≡ Answer.Refused r → (script_of s ≡ refused r) × ((read_script s).table ≡ empty_table)
+pub refused_as_defined : (s : List ℕ) (r : Refusal) → (read_script s).answer ≡ Err r → (script_of s ≡ refused r) × ((read_script s).table ≡ empty_table)
 unfolding read_script
 refused_as_defined s r e = by (script_of s) e
   where
-    by : (m : Got Table) → (script_reply m).answer ≡ Answer.Refused r → (m ≡ refused r) × ((script_reply m).table ≡ empty_table)
+    by : (m : Got Table) → (script_reply m).answer ≡ Err r → (m ≡ refused r) × ((script_reply m).table ≡ empty_table)
     by (got t end) h = let z : ◌≡◌ {A = ℕ} 0 1 = cc in absurd (omega arith)
     by (refused q) h = (cc, refl)
 
 -- and every refusal of the definition is given
-pub refused_where_defined : (s : List ℕ) (r : Refusal) → script_of s ≡ refused r → read_script s ≡ record { answer = Answer.Refused r; table = empty_table }
+pub refused_where_defined : (s : List ℕ) (r : Refusal) → script_of s ≡ refused r → read_script s ≡ record { answer = Err r; table = empty_table }
 unfolding read_script
 refused_where_defined s r e = ap script_reply e

@@ -1,10 +1,10 @@
 -- "The team proves that two replies allowed by the statement are equal": each exported function's own contract gives its reply and what every
 -- lent buffer holds at its end; that of nimbra_step_held does so on the words of a sound monitor.
+use Rattle.std.proofs.Common.{Ok}
 use mathlib.Core.List.{List}
 use mathlib.Core.Path.{◌≡◌}
 use Prim.Native.Nat.{ℕ}
 use Rattle.replies.specs.Replies.{Determined, by_value, DeterminedWith}
-use Rattle.refusals.specs.declared.Answer.{Answer}
 use Rattle.words.specs.Unpacking.{state_fault}
 use Rattle.door.specs.Leaving.{leaves_one}
 use Rattle.door.specs.Stepping.{stepped_one}
@@ -38,7 +38,7 @@ pub stepping : DeterminedWith {F = List ℕ × List ℕ} step.Post (λ κs s. (s
 stepping = record { same = λ κs a r₁ r₂ s₁ s₂ p q. let one = stepped_one p q in (one.0, λ i. (one.1.0 i, one.1.1 i)) }
 
 -- the same, on the words of a sound monitor
-pub stepping_held : DeterminedWith {F = List ℕ × List ℕ} (λ κs a r s. (state_fault a.0.now ≡ Answer.Accepted) × step-held.Post κs a r s) (λ κs s. (s.0.now, s.1.1.0.now))
+pub stepping_held : DeterminedWith {F = List ℕ × List ℕ} (λ κs a r s. (state_fault a.0.now ≡ Ok tt) × step-held.Post κs a r s) (λ κs s. (s.0.now, s.1.1.0.now))
 stepping_held =
     record { same = λ κs a r₁ r₂ s₁ s₂ p q. let one = stepped_one (p.1.sound p.0) (q.1.sound q.0) in (one.0, λ i. (one.1.0 i, one.1.1 i)) }
 

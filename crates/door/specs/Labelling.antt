@@ -1,8 +1,8 @@
 -- nimbra_label and nimbra_labels: where a label, or the block of labels, stands in a script.
-use Rattle.std.specs.Prelude.{List, [], ◌∷◌, ◌≡◌, refl, ℕ, eqb, length, set}
+use Rattle.std.specs.Prelude.{List, [], ◌∷◌, ◌≡◌, refl, ℕ, eqb, length, set, Ok, Err}
 use Rattle.std.proofs.Common.{sym, ap, arith, eq-eqb, ne_eqb}
 use Rattle.refusals.specs.declared.Refusal.{Refusal}
-use Rattle.refusals.specs.declared.Answer.{Answer}
+use Rattle.refusals.specs.Answers.{Answer}
 use Rattle.refusals.specs.Numbering.{number_of}
 use Rattle.script.specs.declared.Span.{Span}
 use Rattle.script.specs.declared.Label.{Label}
@@ -13,8 +13,8 @@ use Rattle.door.specs.Leaving.{Left, if_size, Leaves, leaves_same, right_size, w
 
 -- 0, the first byte and the length of a part; or a number, and the place as it was
 abbrev pub place_left : Answer → Span → List ℕ → Left
-place_left Answer.Accepted span place = record { reply = 0; buffer = span.from ∷ span.size ∷ [] }
-place_left (Answer.Refused r) span place = record { reply = number_of r; buffer = place }
+place_left (Ok _) span place = record { reply = 0; buffer = span.from ∷ span.size ∷ [] }
+place_left (Err r) span place = record { reply = number_of r; buffer = place }
 
 -- what nimbra_label answers, and the place that it leaves
 unfoldable pub label_door : List ℕ → ℕ → List ℕ → Left
@@ -33,13 +33,13 @@ two_stored (x ∷ y ∷ z ∷ rest) a b two = absurd (omega arith)
 
 module _ (answer : Answer) (span : Span) (place : List ℕ) where
   -- a part that is refused
-  pub place_refused : {r : Refusal} {n : ℕ} → answer ≡ Answer.Refused r → n ≡ number_of r → Leaves (place_left answer span place) n place
+  pub place_refused : {r : Refusal} {n : ℕ} → answer ≡ Err r → n ≡ number_of r → Leaves (place_left answer span place) n place
   place_refused bad number = leaves_same (record { reply = number; buffer = refl }) (ap (λ (a : Answer). place_left a span place) (sym bad))
 
   -- one that is shown
-  pub place_shown : length place ≡ 2 → answer ≡ Answer.Accepted → Leaves (place_left answer span place) 0 (set (set place 0 span.from) 1 span.size)
+  pub place_shown : length place ≡ 2 → answer ≡ Ok tt → Leaves (place_left answer span place) 0 (set (set place 0 span.from) 1 span.size)
   place_shown two good =
-      leaves_same {left = place_left Answer.Accepted span place} (record { reply = refl; buffer = two_stored place span.from span.size two })
+      leaves_same {left = place_left (Ok tt) span place} (record { reply = refl; buffer = two_stored place span.from span.size two })
       (ap (λ (a : Answer). place_left a span place) (sym good))
 
 module _ (script place : List ℕ) where

@@ -1,9 +1,9 @@
 -- nimbra_reach: the marks of a reach as bytes that are 0 or 1.
-use Rattle.std.specs.Prelude.{Bool, false, cond, ◌&&◌, List, ◌≡◌, refl, ℕ, eqb, length, get_or}
+use Rattle.std.specs.Prelude.{Bool, false, cond, ◌&&◌, List, ◌≡◌, refl, ℕ, eqb, length, get_or, Ok, Err}
 use Rattle.std.proofs.Common.{sym, ap, ◌∙◌}
 use Rattle.std.proofs.lemmas.List.{length-replicate}
 use Rattle.refusals.specs.declared.Refusal.{Refusal}
-use Rattle.refusals.specs.declared.Answer.{Answer}
+use Rattle.refusals.specs.Answers.{Answer}
 use Rattle.refusals.specs.Numbering.{number_of}
 use Rattle.bits.specs.Bits.{list_to}
 use Rattle.table.specs.declared.Table.{Table}
@@ -39,13 +39,13 @@ Slotted found = (length found.entries ≡ limits.slots) × (length found.imports
 
 -- 0 and the marks, or a number and the bytes as they were
 abbrev pub marks_left : Answer → Reach → List ℕ → Left
-marks_left Answer.Accepted found marks = record { reply = 0; buffer = mark_bytes found }
-marks_left (Answer.Refused r) found marks = record { reply = number_of r; buffer = marks }
+marks_left (Ok _) found marks = record { reply = 0; buffer = mark_bytes found }
+marks_left (Err r) found marks = record { reply = number_of r; buffer = marks }
 
 -- the reach of an entry of the table in sound words, or 29
 abbrev pub reach_left : Answer → List ℕ → ℕ → List ℕ → Left
-reach_left Answer.Accepted state entry marks = let found = reach_of (monitor_in state).table entry in marks_left found.answer found marks
-reach_left (Answer.Refused r) state entry marks = record { reply = number_of r; buffer = marks }
+reach_left (Ok _) state entry marks = let found = reach_of (monitor_in state).table entry in marks_left found.answer found marks
+reach_left (Err r) state entry marks = record { reply = number_of r; buffer = marks }
 
 -- what nimbra_reach answers, and the marks that it leaves
 unfoldable pub reach_door : List ℕ → ℕ → List ℕ → Left
@@ -53,13 +53,13 @@ reach_door state entry marks = if_size (eqb (length state) state_words && eqb (l
 
 module _ (answer : Answer) (found : Reach) (marks : List ℕ) where
   -- a reach that is refused
-  pub marks_refused : {r : Refusal} {n : ℕ} → answer ≡ Answer.Refused r → n ≡ number_of r → Leaves (marks_left answer found marks) n marks
+  pub marks_refused : {r : Refusal} {n : ℕ} → answer ≡ Err r → n ≡ number_of r → Leaves (marks_left answer found marks) n marks
   marks_refused bad number = leaves_same (record { reply = number; buffer = refl }) (ap (λ (a : Answer). marks_left a found marks) (sym bad))
 
   -- one that is shown
-  pub marks_shown : {later : List ℕ} → answer ≡ Answer.Accepted → later ≡ mark_bytes found → Leaves (marks_left answer found marks) 0 later
+  pub marks_shown : {later : List ℕ} → answer ≡ Ok tt → later ≡ mark_bytes found → Leaves (marks_left answer found marks) 0 later
   marks_shown good put =
-      leaves_same {left = marks_left Answer.Accepted found marks} (record { reply = refl; buffer = put }) (ap (λ (a : Answer). marks_left a found marks) (sym good))
+      leaves_same {left = marks_left (Ok tt) found marks} (record { reply = refl; buffer = put }) (ap (λ (a : Answer). marks_left a found marks) (sym good))
 
 module _ (state : List ℕ) (entry : ℕ) (marks : List ℕ) where
   -- the words are not 452
@@ -83,11 +83,11 @@ module _ (state : List ℕ) (entry : ℕ) (marks : List ℕ) where
           (leaves_same so (ap (λ (a : Answer). reach_left a state entry marks) (sym said ∙ is)))
 
       -- 29
-      pub reach_unsound : {r : Refusal} {n : ℕ} → fault ≡ Answer.Refused r → n ≡ number_of r → Leaves (reach_door state entry marks) n marks
+      pub reach_unsound : {r : Refusal} {n : ℕ} → fault ≡ Err r → n ≡ number_of r → Leaves (reach_door state entry marks) n marks
       reach_unsound bad number = by_fault bad (record { reply = number; buffer = refl })
 
       -- what the reach of an entry shows
-      pub reach_shown : {m : Monitor} (found : Reach) {n : ℕ} {later : List ℕ} → fault ≡ Answer.Accepted → m ≡ monitor_in state
+      pub reach_shown : {m : Monitor} (found : Reach) {n : ℕ} {later : List ℕ} → fault ≡ Ok tt → m ≡ monitor_in state
           → ReachReply m.table entry (reach_fault m.table entry) found
           → Leaves (marks_left found.answer found marks) n later
           → Leaves (reach_door state entry marks) n later
@@ -102,8 +102,8 @@ pub found_slotted : (t : Table) (entry : ℕ) (found : Reach) → ReachReply t e
 found_slotted t entry found reply = by (reach_fault t entry) reply
   where
     by : (a : Answer) → ReachReply t entry a found → Slotted found
-    by Answer.Accepted reply = reply.1.slots
-    by (Answer.Refused r) reply = (
+    by (Ok _) reply = reply.1.slots
+    by (Err r) reply = (
       ap (λ (x : Reach). length x.entries) reply ∙ length-replicate limits.slots false,
       ap (λ (x : Reach). length x.imports) reply ∙ length-replicate limits.imports false,
     )

@@ -1,13 +1,12 @@
 -- From a start on, whatever is offered as steps: the words are those of the monitor that the functions by value give, which never falls
 -- under 29, and the results are what the logic says of the whole history.
-use Rattle.std.specs.Prelude.{Bool, ◌≡◌, ℕ, ◌<◌}
+use Rattle.std.specs.Prelude.{Bool, ◌≡◌, ℕ, ◌<◌, Ok}
 use mathlib.Core.List.{List, [], ◌∷◌}
 use Rattle.std.proofs.Common.{sym, ◌∙◌, eq-eqb}
 use Rattle.std.proofs.Math.Path.{ap, subst}
 use Rattle.std.proofs.Math.ListN.{length, get_or}
 use Rattle.std.proofs.lemmas.List.{length-replicate}
 use Rattle.values.specs.declared.Truth.{Truth}
-use Rattle.refusals.specs.declared.Answer.{Answer}
 use Rattle.bits.specs.Reading.{got, answered}
 use Rattle.bits.specs.Lists.{length_list, get_d_list}
 use Rattle.table.specs.declared.Table.{Table}
@@ -60,12 +59,12 @@ results_long m bytes = length_list slot_count _
 
 module _ (script : List ℕ) (t : Table) (end : ℕ) (whole : script_of script ≡ got t end) where
   -- the script is accepted, with that table
-  read_is : read_script script ≡ record { answer = Answer.Accepted; table = t }
+  read_is : read_script script ≡ record { answer = Ok tt; table = t }
   unfolding read_script
   read_is = ap script_reply whole
 
   -- its start
-  started : start_on t ≡ record { answer = Answer.Accepted; monitor = recall_of t [] }
+  started : start_on t ≡ record { answer = Ok tt; monitor = recall_of t [] }
   started = start_recalls t (read_shaped script t end whole) (read_sound script t end whole)
 
   -- is a fresh monitor
@@ -140,7 +139,7 @@ module _ (script : List ℕ) (t : Table) (end : ℕ) (whole : script_of script �
     run_steps before bytes = one_more before bytes _ (run_buffers before).0 (run_buffers before).1
 
     -- 29 is never given
-    pub run_sound : (strings : List (List ℕ)) → state_fault (door_run script state results strings).state ≡ Answer.Accepted
+    pub run_sound : (strings : List (List ℕ)) → state_fault (door_run script state results strings).state ≡ Ok tt
     run_sound strings =
         ap state_fault (run_words strings) ∙ sound_state (monitor_run t strings) (run_stands strings).shape (run_stands strings).sound
 

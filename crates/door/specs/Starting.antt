@@ -1,9 +1,9 @@
 -- nimbra_start: a script read, and the words of a fresh monitor of its table.
-use Rattle.std.specs.Prelude.{List, ◌≡◌, refl, ℕ, eqb, length}
+use Rattle.std.specs.Prelude.{List, ◌≡◌, refl, ℕ, eqb, length, Ok, Err}
 use Rattle.std.proofs.Common.{sym, ◌∙◌, eq-eqb, ne_eqb}
 use Rattle.std.proofs.Math.Path.{ap}
 use Rattle.refusals.specs.declared.Refusal.{Refusal}
-use Rattle.refusals.specs.declared.Answer.{Answer}
+use Rattle.refusals.specs.Answers.{Answer}
 use Rattle.refusals.specs.Numbering.{number_of}
 use Rattle.refusals.specs.Accepting.{not_accepted}
 use Rattle.bits.specs.Reading.{Got, got, refused}
@@ -20,24 +20,24 @@ use Rattle.door.specs.Leaving.{Left, if_size, Leaves, leaves_same, right_size, w
 
 -- 0 and the words of a fresh monitor, or the reader's number and the words as they were
 abbrev pub start_left : Answer → Table → List ℕ → Left
-start_left Answer.Accepted t state = record { reply = 0; buffer = state_of (fresh t) }
-start_left (Answer.Refused r) t state = record { reply = number_of r; buffer = state }
+start_left (Ok _) t state = record { reply = 0; buffer = state_of (fresh t) }
+start_left (Err r) t state = record { reply = number_of r; buffer = state }
 
 -- what nimbra_start answers, and the words that it leaves
 unfoldable pub start_door : List ℕ → List ℕ → Left
 start_door script state = if_size (eqb (length state) state_words) state (start_left (read_script script).answer (read_script script).table state)
 
 -- a script that is accepted has the table that was read
-pub accepted_script : (s : List ℕ) → (read_script s).answer ≡ Answer.Accepted → (end : ℕ) × (script_of s ≡ got (read_script s).table end)
+pub accepted_script : (s : List ℕ) → (read_script s).answer ≡ Ok tt → (end : ℕ) × (script_of s ≡ got (read_script s).table end)
 unfolding read_script
 accepted_script s good = by (script_of s) good
   where
-    by : (g : Got Table) → (script_reply g).answer ≡ Answer.Accepted → (end : ℕ) × (g ≡ got (script_reply g).table end)
+    by : (g : Got Table) → (script_reply g).answer ≡ Ok tt → (end : ℕ) × (g ≡ got (script_reply g).table end)
     by (got t end) good = (end, refl)
     by (refused r) good = not_accepted r good
 
 -- so the start on it is a fresh monitor
-pub read_starts : (s : List ℕ) → (read_script s).answer ≡ Answer.Accepted → start_on (read_script s).table ≡ record { answer = Answer.Accepted; monitor = fresh (read_script s).table }
+pub read_starts : (s : List ℕ) → (read_script s).answer ≡ Ok tt → start_on (read_script s).table ≡ record { answer = Ok tt; monitor = fresh (read_script s).table }
 unfolding start_on unsound_table
 read_starts s good =
     let t = (read_script s).table in
@@ -60,13 +60,13 @@ module _ (script state : List ℕ) where
         (leaves_same so (ap (λ (a : Answer). start_left a (read_script script).table state) (sym said ∙ ap (λ (x : Script). x.answer) is)))
 
     -- it is refused
-    pub start_refused : {r : Refusal} {n : ℕ} → read.answer ≡ Answer.Refused r → n ≡ number_of r → Leaves (start_door script state) n state
+    pub start_refused : {r : Refusal} {n : ℕ} → read.answer ≡ Err r → n ≡ number_of r → Leaves (start_door script state) n state
     start_refused bad number = by_answer bad (record { reply = number; buffer = refl })
 
     -- it is accepted
-    pub start_done : {started : Started} {later : List ℕ} → read.answer ≡ Answer.Accepted → started ≡ start_on read.table → later ≡ packed started.monitor state
+    pub start_done : {started : Started} {later : List ℕ} → read.answer ≡ Ok tt → started ≡ start_on read.table → later ≡ packed started.monitor state
         → Leaves (start_door script state) 0 later
     start_done good begun put =
-        let accepted : (read_script script).answer ≡ Answer.Accepted = sym (ap (λ (x : Script). x.answer) is) ∙ good in
+        let accepted : (read_script script).answer ≡ Ok tt = sym (ap (λ (x : Script). x.answer) is) ∙ good in
         let monitor = ap (λ (x : Started). x.monitor) (begun ∙ ap (λ (x : Script). start_on x.table) is ∙ read_starts script accepted) in
         by_answer good (record { reply = refl; buffer = put ∙ sym (packed_whole _ state long refl) ∙ ap state_of monitor })

@@ -1,5 +1,5 @@
 -- nimbra_step and nimbra_step_held: a step of a monitor in words.
-use Rattle.std.specs.Prelude.{Bool, true, false, ◌&&◌, List, [], ◌≡◌, ℕ, zero, suc, ◌≤◌, eqb, ltb, length, get_or, replicate}
+use Rattle.std.specs.Prelude.{Bool, true, false, ◌&&◌, List, [], ◌≡◌, ℕ, zero, suc, ◌≤◌, eqb, ltb, length, get_or, replicate, Ok, Err}
 use Rattle.std.proofs.Math.Bool.{cond}
 use Rattle.std.proofs.Math.Path.{refl, sym}
 use Rattle.std.proofs.Common.{ap, ◌∙◌, arith, ltb-false, get_or-set_other}
@@ -8,7 +8,7 @@ use Rattle.replies.specs.Plain.{never}
 use Rattle.values.specs.declared.Outcome.{Outcome}
 use Rattle.values.specs.declared.Slot.{Slot}
 use Rattle.refusals.specs.declared.Refusal.{Refusal}
-use Rattle.refusals.specs.declared.Answer.{Answer}
+use Rattle.refusals.specs.Answers.{Answer}
 use Rattle.refusals.specs.Numbering.{number_of}
 use Rattle.refusals.specs.Accepting.{not_accepted}
 use Rattle.bits.specs.Bits.{list_to}
@@ -50,8 +50,8 @@ stepped_left m bytes =
 
 -- what the monitor in sound words answers; or 29, and nothing is touched
 abbrev pub sound_left : Answer → List ℕ → List ℕ → List ℕ → StepLeft
-sound_left Answer.Accepted state bytes results = stepped_left (monitor_in state) bytes
-sound_left (Answer.Refused r) state bytes results = record { reply = number_of r; state = state; results = results }
+sound_left (Ok _) state bytes results = stepped_left (monitor_in state) bytes
+sound_left (Err r) state bytes results = record { reply = number_of r; state = state; results = results }
 
 -- the buffers have their sizes
 abbrev pub step_sizes : List ℕ → List ℕ → Bool
@@ -72,11 +72,11 @@ pub record StepLeaves (left : StepLeft) (n : ℕ) (later shown : List ℕ) : Typ
 -- a step without the test for 29: as nimbra_step where a size is wrong, and on the words of a sound monitor
 pub record Held (state bytes results : List ℕ) (n : ℕ) (later shown : List ℕ) : Type 0 where
   pub wrong : step_sizes state results ≡ false → StepLeaves (step_door state bytes results) n later shown
-  pub sound : state_fault state ≡ Answer.Accepted → StepLeaves (step_door state bytes results) n later shown
+  pub sound : state_fault state ≡ Ok tt → StepLeaves (step_door state bytes results) n later shown
 
 -- a step taken in place, whatever sound monitor the words are those of
 pub record StepsOn (bytes : List ℕ) (n : ℕ) (state later shown : List ℕ) : Type 0 where
-  pub steps : (m : Monitor) → Kept m → unsound m ≡ Answer.Accepted → state ≡ state_of m → StepLeaves (stepped_left m bytes) n later shown
+  pub steps : (m : Monitor) → Kept m → unsound m ≡ Ok tt → state ≡ state_of m → StepLeaves (stepped_left m bytes) n later shown
 
 -- the same contract allows one thing only
 pub stepped_one : {left : StepLeft} {n₁ n₂ : ℕ} {later₁ later₂ shown₁ shown₂ : List ℕ} → StepLeaves left n₁ later₁ shown₁ → StepLeaves left n₂ later₂ shown₂
@@ -117,12 +117,12 @@ no_result m bytes j none = by (unsound m) none
 
     taken : (a : Answer) → (is_accepted (step_reply a m (taken_by m bytes)).answer && ltb j m.table.n) ≡ false
         → result_in (step_reply a m (taken_by m bytes)).results j ≡ Outcome.Nothing
-    taken Answer.Accepted none = no_result_yet m (taken_by m bytes) m.table.n j (ltb-false j m.table.n none)
-    taken (Answer.Refused r) none = nothing
+    taken (Ok _) none = no_result_yet m (taken_by m bytes) m.table.n j (ltb-false j m.table.n none)
+    taken (Err r) none = nothing
 
     by : (a : Answer) → (is_accepted (sound_step a m bytes).answer && ltb j m.table.n) ≡ false → result_in (sound_step a m bytes).results j ≡ Outcome.Nothing
-    by Answer.Accepted none = taken (taken_by m bytes).answer none
-    by (Answer.Refused r) none = nothing
+    by (Ok _) none = taken (taken_by m bytes).answer none
+    by (Err r) none = nothing
 
 -- so slots that were cleared hold all results
 shown_whole : (m : Monitor) (bytes : List ℕ) → shown_over (step_of m bytes) m.table.n no_words ≡ result_words (step_of m bytes).results
@@ -196,12 +196,12 @@ module _ (state bytes results : List ℕ) where
           ∙ sym (ap (λ (t : Bool). cond t (sound_left (state_fault state) state bytes results) untouched) sizes))
 
       -- 29
-      pub step_unsound : {fault : Answer} {r : Refusal} {n : ℕ} → fault ≡ state_fault state → fault ≡ Answer.Refused r → n ≡ number_of r
+      pub step_unsound : {fault : Answer} {r : Refusal} {n : ℕ} → fault ≡ state_fault state → fault ≡ Err r → n ≡ number_of r
           → StepLeaves (step_door state bytes results) n state results
       step_unsound is bad number = by_fault is bad (record { reply = number; state = refl; results = refl })
 
       -- what the monitor answers
-      pub step_done : {fault : Answer} {n : ℕ} {later shown : List ℕ} → fault ≡ state_fault state → fault ≡ Answer.Accepted → StepsOn bytes n state later shown
+      pub step_done : {fault : Answer} {n : ℕ} {later shown : List ℕ} → fault ≡ state_fault state → fault ≡ Ok tt → StepsOn bytes n state later shown
           → StepLeaves (step_door state bytes results) n later shown
       step_done is good so =
           let sound = state_sound state (sym is ∙ good) in
@@ -212,7 +212,7 @@ module _ (state bytes results : List ℕ) where
       held_done so = record { wrong = λ wrong. never (sym wrong ∙ sizes); sound = λ good. step_done refl good so }
 
 -- the words of a sound monitor: nimbra_step does what the monitor's own step does
-pub step_of_words : (m : Monitor) → Kept m → unsound m ≡ Answer.Accepted → (bytes results : List ℕ) → length results ≡ slot_count
+pub step_of_words : (m : Monitor) → Kept m → unsound m ≡ Ok tt → (bytes results : List ℕ) → length results ≡ slot_count
     → step_door (state_of m) bytes results ≡ stepped_left m bytes
 unfolding step_door
 step_of_words m kept good bytes results room =
@@ -224,20 +224,20 @@ step_of_words m kept good bytes results room =
 -- ---- a refused step
 
 -- a step that is refused hands the monitor back, and no result
-refused_as_it_came : (m : Monitor) (bytes : List ℕ) (r : Refusal) → (step_of m bytes).answer ≡ Answer.Refused r → step_of m bytes ≡ refused_step r m
+refused_as_it_came : (m : Monitor) (bytes : List ℕ) (r : Refusal) → (step_of m bytes).answer ≡ Err r → step_of m bytes ≡ refused_step r m
 unfolding step_of advanced
 refused_as_it_came m bytes r bad = by (unsound m) bad
   where
-    same : (f : Refusal) → Answer.Refused f ≡ Answer.Refused r → refused_step f m ≡ refused_step r m
+    same : (f : Refusal) → Err f ≡ Err r → refused_step f m ≡ refused_step r m
     same f is = ap (λ (a : Answer). record { answer = a; monitor = m; results = no_results }) is
 
-    taken : (a : Answer) → (step_reply a m (taken_by m bytes)).answer ≡ Answer.Refused r → step_reply a m (taken_by m bytes) ≡ refused_step r m
-    taken Answer.Accepted bad = not_accepted r (sym bad)
-    taken (Answer.Refused f) bad = same f bad
+    taken : (a : Answer) → (step_reply a m (taken_by m bytes)).answer ≡ Err r → step_reply a m (taken_by m bytes) ≡ refused_step r m
+    taken (Ok _) bad = not_accepted r (sym bad)
+    taken (Err f) bad = same f bad
 
-    by : (a : Answer) → (sound_step a m bytes).answer ≡ Answer.Refused r → sound_step a m bytes ≡ refused_step r m
-    by Answer.Accepted bad = taken (taken_by m bytes).answer bad
-    by (Answer.Refused f) bad = same f bad
+    by : (a : Answer) → (sound_step a m bytes).answer ≡ Err r → sound_step a m bytes ≡ refused_step r m
+    by (Ok _) bad = taken (taken_by m bytes).answer bad
+    by (Err f) bad = same f bad
 
 -- 128 times "no result", in words
 no_result_words : result_words no_results ≡ no_words
@@ -248,8 +248,8 @@ no_result_words =
     (λ j h. sym (ap (λ (slot : Slot). outcome_word slot.outcome) (get_d_padded [] limits.slots j (record { outcome = Outcome.Nothing })))))
 
 -- "A refused step returns the monitor unchanged and 128 times 'no result'.": its number, the words as they came, and slots of 0
-pub step_refusal : (state bytes results : List ℕ) (r : Refusal) → length state ≡ state_words → length results ≡ slot_count → state_fault state ≡ Answer.Accepted
-    → (step_of (monitor_in state) bytes).answer ≡ Answer.Refused r → step_door state bytes results ≡ record { reply = number_of r; state = state; results = no_words }
+pub step_refusal : (state bytes results : List ℕ) (r : Refusal) → length state ≡ state_words → length results ≡ slot_count → state_fault state ≡ Ok tt
+    → (step_of (monitor_in state) bytes).answer ≡ Err r → step_door state bytes results ≡ record { reply = number_of r; state = state; results = no_words }
 unfolding stepped_left
 step_refusal state bytes results r long room good bad =
     let sound = state_sound state good in

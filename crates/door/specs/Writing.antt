@@ -1,10 +1,10 @@
 -- nimbra_write: the table in words and a block of labels, written as a script again.
-use Rattle.std.specs.Prelude.{Bool, false, ◌&&◌, List, [], ◌∷◌, ◌≡◌, ℕ, eqb, length, set}
+use Rattle.std.specs.Prelude.{Bool, false, ◌&&◌, List, [], ◌∷◌, ◌≡◌, ℕ, eqb, length, set, Ok, Err}
 use Rattle.std.proofs.Math.Bool.{cond}
 use Rattle.std.proofs.Math.Path.{refl, sym, ap}
 use Rattle.std.proofs.Common.{◌∙◌, arith}
 use Rattle.refusals.specs.declared.Refusal.{Refusal}
-use Rattle.refusals.specs.declared.Answer.{Answer}
+use Rattle.refusals.specs.Answers.{Answer}
 use Rattle.refusals.specs.Numbering.{number_of}
 use Rattle.table.specs.declared.Table.{Table}
 use Rattle.script.specs.declared.Written.{Written}
@@ -22,8 +22,8 @@ pub record WriteLeft : Type 0 where
 
 -- 0 and how many bytes were written, or a number and the word as it was
 abbrev pub size_left : Answer → ℕ → List ℕ → Left
-size_left Answer.Accepted n size = record { reply = 0; buffer = n ∷ [] }
-size_left (Answer.Refused r) n size = record { reply = number_of r; buffer = size }
+size_left (Ok _) n size = record { reply = 0; buffer = n ∷ [] }
+size_left (Err r) n size = record { reply = number_of r; buffer = size }
 
 -- what the writer answers to a table
 unfoldable pub table_left : Table → List ℕ → List ℕ → List ℕ → WriteLeft
@@ -34,8 +34,8 @@ table_left t labels out size =
 
 -- what it answers to sound words, or 29
 abbrev pub words_left : Answer → List ℕ → List ℕ → List ℕ → List ℕ → WriteLeft
-words_left Answer.Accepted state labels out size = table_left (monitor_in state).table labels out size
-words_left (Answer.Refused r) state labels out size = record { reply = number_of r; out = out; size = size }
+words_left (Ok _) state labels out size = table_left (monitor_in state).table labels out size
+words_left (Err r) state labels out size = record { reply = number_of r; out = out; size = size }
 
 -- what nimbra_write answers, and what it leaves in both buffers
 unfoldable pub write_door : List ℕ → List ℕ → List ℕ → List ℕ → WriteLeft
@@ -57,13 +57,13 @@ one_stored (x ∷ y ∷ rest) n one = absurd (omega arith)
 
 module _ (answer : Answer) (n : ℕ) (size : List ℕ) where
   -- a write that is refused
-  pub size_refused : {r : Refusal} {number : ℕ} → answer ≡ Answer.Refused r → number ≡ number_of r → Leaves (size_left answer n size) number size
+  pub size_refused : {r : Refusal} {number : ℕ} → answer ≡ Err r → number ≡ number_of r → Leaves (size_left answer n size) number size
   size_refused bad is = leaves_same (record { reply = is; buffer = refl }) (ap (λ (a : Answer). size_left a n size) (sym bad))
 
   -- one that is done
-  pub size_shown : length size ≡ 1 → answer ≡ Answer.Accepted → Leaves (size_left answer n size) 0 (set size 0 n)
+  pub size_shown : length size ≡ 1 → answer ≡ Ok tt → Leaves (size_left answer n size) 0 (set size 0 n)
   size_shown one good =
-      leaves_same {left = size_left Answer.Accepted n size} (record { reply = refl; buffer = one_stored size n one }) (ap (λ (a : Answer). size_left a n size) (sym good))
+      leaves_same {left = size_left (Ok tt) n size} (record { reply = refl; buffer = one_stored size n one }) (ap (λ (a : Answer). size_left a n size) (sym good))
 
 -- what was left is said by another name
 written_same : {left other : WriteLeft} {n : ℕ} {out size : List ℕ} → WriteLeaves left n out size → left ≡ other → WriteLeaves other n out size
@@ -112,11 +112,11 @@ module _ (state labels out size : List ℕ) where
           (ap (λ (t : Bool). cond t (words_left (state_fault state) state labels out size) untouched) (sizes_right (length state) state_words (length size) 1 long one)))
 
       -- 29
-      pub write_unsound : {r : Refusal} {n : ℕ} → fault ≡ Answer.Refused r → n ≡ number_of r → WriteLeaves (write_door state labels out size) n out size
+      pub write_unsound : {r : Refusal} {n : ℕ} → fault ≡ Err r → n ≡ number_of r → WriteLeaves (write_door state labels out size) n out size
       write_unsound bad number = by_fault bad (record { reply = number; out = refl; size = refl })
 
       -- what the writer answers
-      pub write_done : {m : Monitor} {written : Written} {n : ℕ} {later after : List ℕ} → fault ≡ Answer.Accepted → m ≡ monitor_in state
+      pub write_done : {m : Monitor} {written : Written} {n : ℕ} {later after : List ℕ} → fault ≡ Ok tt → m ≡ monitor_in state
           → written ≡ write_script m.table labels out → later ≡ write_bytes m.table labels out
           → Leaves (size_left written.answer written.size size) n after
           → WriteLeaves (write_door state labels out size) n later after

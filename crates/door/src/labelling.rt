@@ -4,17 +4,17 @@ ghost use Rattle.door.specs.Leaving.{Leaves};
 ghost use Rattle.door.specs.Labelling.{place_left, label_door, labels_door};
 
 use crate::WRONG_SIZE;
-use refusals::Answer;
+use refusals::Refusal;
 use script::Span;
 
 // A part that was found: its first byte and its length; or the refusal's number.
-fn show_place(answer: Answer, span: Span, place: &mut [u64]) -> u8
+fn show_place(answer: Result<(), Refusal>, span: Span, place: &mut [u64]) -> u8
     requires { length place.old ≡ 2 }
     ensures { Leaves (place_left answer span place.old) result place.new }
 {
     match answer {
-        Answer::Refused(r) => refusals::number(r),
-        Answer::Accepted => {
+        Err(r) => refusals::number(r),
+        Ok(()) => {
             place[0] = span.from as u64;
             place[1] = span.size as u64;
             0

@@ -6,7 +6,6 @@ ghost use Rattle.door.specs.Reaching.{mark_byte, mark_bytes, Slotted, marks_left
 
 use crate::WRONG_SIZE;
 use reach::Reach;
-use refusals::Answer;
 use words::WORDS;
 
 // Marks, from byte `at` on.
@@ -40,8 +39,8 @@ fn show_reach(found: Reach, marks: &mut [u8]) -> u8
 {
     let answer = found.answer;
     match answer {
-        Answer::Refused(r) => refusals::number(r),
-        Answer::Accepted => {
+        Err(r) => refusals::number(r),
+        Ok(()) => {
             put_reach(found, marks);
             0
         }
@@ -60,8 +59,8 @@ pub fn nimbra_reach(state: &[u64], entry: u64, marks: &mut [u8]) -> u8
         return WRONG_SIZE;
     }
     match words::state_fault(state) {
-        Answer::Refused(r) => refusals::number(r),
-        Answer::Accepted => {
+        Err(r) => refusals::number(r),
+        Ok(()) => {
             let m = words::monitor_in(state);
             let table = m.table;
             show_reach(reacher::of_entry(table, entry as usize), marks)

@@ -3,7 +3,6 @@ ghost use Rattle.door.specs.Leaving.{Leaves};
 ghost use Rattle.door.specs.Starting.{start_door};
 
 use crate::WRONG_SIZE;
-use refusals::Answer;
 use words::WORDS;
 
 // "a monitor that holds that table and no accepted step yet", in the caller's words.
@@ -17,8 +16,8 @@ pub fn nimbra_start(script: &[u8], state: &mut [u64]) -> u8
     let read = reader::read(script);
     let answer = read.answer;
     match answer {
-        Answer::Refused(r) => refusals::number(r),
-        Answer::Accepted => {
+        Err(r) => refusals::number(r),
+        Ok(()) => {
             let table = read.table;
             let started = monitor::start(table);
             let fresh = started.monitor;

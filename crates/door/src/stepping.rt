@@ -3,7 +3,6 @@ ghost use Rattle.std.specs.Prelude.{◌≡◌, length};
 ghost use Rattle.door.specs.Stepping.{no_words, step_door, StepLeaves, StepsOn, Held};
 
 use crate::WRONG_SIZE;
-use refusals::Answer;
 use words::WORDS;
 
 // 128 times "no result".
@@ -38,8 +37,8 @@ pub fn nimbra_step(state: &mut [u64], step: &[u8], results: &mut [u64]) -> u8
         return WRONG_SIZE;
     }
     match words::state_fault(state) {
-        Answer::Refused(r) => refusals::number(r),
-        Answer::Accepted => step_on(state, step, results),
+        Err(r) => refusals::number(r),
+        Ok(()) => step_on(state, step, results),
     }
 }
 

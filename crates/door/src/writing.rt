@@ -4,7 +4,6 @@ ghost use Rattle.door.specs.Leaving.{Leaves};
 ghost use Rattle.door.specs.Writing.{size_left, write_door, WriteLeaves};
 
 use crate::WRONG_SIZE;
-use refusals::Answer;
 use script::Written;
 use words::WORDS;
 
@@ -15,8 +14,8 @@ fn show_size(written: Written, size: &mut [u64]) -> u8
 {
     let answer = written.answer;
     match answer {
-        Answer::Refused(r) => refusals::number(r),
-        Answer::Accepted => {
+        Err(r) => refusals::number(r),
+        Ok(()) => {
             size[0] = written.size as u64;
             0
         }
@@ -35,8 +34,8 @@ pub fn nimbra_write(state: &[u64], labels: &[u8], out: &mut [u8], size: &mut [u6
         return WRONG_SIZE;
     }
     match words::state_fault(state) {
-        Answer::Refused(r) => refusals::number(r),
-        Answer::Accepted => {
+        Err(r) => refusals::number(r),
+        Ok(()) => {
             let m = words::monitor_in(state);
             let table = m.table;
             show_size(writer::write(table, labels, out), size)

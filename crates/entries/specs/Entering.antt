@@ -1,5 +1,5 @@
 -- One entry, read by what is lent of the table so far: the sorts of its entries as numbers, which imports are events, its counts.
-use Rattle.std.specs.Prelude.{Bool, cond, List, ℕ, ◌%◌, eqb, ltb, pos, length}
+use Rattle.std.specs.Prelude.{Bool, cond, List, ℕ, ◌%◌, eqb, ltb, pos, length, Ok, Err}
 use Rattle.refusals.specs.declared.Refusal.{Refusal}
 use Rattle.refusals.specs.Numbering.{unless}
 use Rattle.bits.specs.Twos.{signed}
@@ -33,8 +33,8 @@ entry_by sorts events q v k =
 
 -- what was read, as it is handed back
 abbrev pub entered_of : Got Entry → Entered
-entered_of (got e next) = Entered.Entry e next
-entered_of (refused r) = Entered.Refused r
+entered_of (got e next) = Ok (e, next)
+entered_of (refused r) = Err r
 
 -- "Number 1 comes before all reading"
 unfoldable pub entered : List ℕ → List Bool → ℕ → ℕ → ℕ → List ℕ → ℕ → Entered

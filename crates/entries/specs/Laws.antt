@@ -1,11 +1,10 @@
 -- An entry read by what is lent of a table is the entry that the script's reader reads.
-use Rattle.std.specs.Prelude.{Bool, true, false, not, List, ◌≡◌, ℕ, ◌+◌, ◌%◌, ◌^◌, ◌<◌, ◌≤◌, T, eqb, ltb, ℤ, pos, length, get_or}
+use Rattle.std.specs.Prelude.{Bool, true, false, not, List, ◌≡◌, ℕ, ◌+◌, ◌%◌, ◌^◌, ◌<◌, ◌≤◌, T, eqb, ltb, ℤ, pos, length, get_or, Ok, Err, Some, None, Option}
 use Rattle.std.proofs.Math.Path.{refl, ap}
 use Rattle.std.proofs.Common.{◌∙◌, ap₂, subst, mod-eq_of_lt, arith, ltb-true, le-ltb, eqb-true}
 use Rattle.refusals.specs.declared.Refusal.{Refusal}
-use Rattle.refusals.specs.declared.Answer.{Answer}
+use Rattle.refusals.specs.Answers.{Answer}
 use Rattle.refusals.specs.Numbering.{unless}
-use Rattle.bits.specs.declared.Field.{Field}
 use Rattle.bits.specs.Bits.{field_at}
 use Rattle.bits.specs.Fields.{there_lt}
 use Rattle.bits.specs.Twos.{signed}
@@ -29,30 +28,30 @@ use Rattle.sound.specs.Laws.{Sorts, judged_by_lem}
 use Rattle.entries.specs.Entering.{operand_by, operands_by, entry_by, entered_of, entered}
 
 -- a value that is kept was accepted, and is the one that was read
-kept : (answer : Answer) (v end a next : ℕ) → judged answer v end ≡ got a next → (v ≡ a) × (answer ≡ Answer.Accepted)
-kept Answer.Accepted v end a next e = (cc, refl)
-kept (Answer.Refused r) v end a next e = let z : ◌≡◌ {A = ℕ} 0 1 = cc in absurd (omega arith)
+kept : (answer : Answer) (v end a next : ℕ) → judged answer v end ≡ got a next → (v ≡ a) × (answer ≡ Ok tt)
+kept (Ok _) v end a next e = (cc, refl)
+kept (Err r) v end a next e = let z : ◌≡◌ {A = ℕ} 0 1 = cc in absurd (omega arith)
 
 -- what is taken of a field was there, and was accepted
-taken_there : (cut : Refusal) (judge : ℕ → Answer) (end : ℕ) (f : Field) (a next : ℕ) → taken cut judge end f ≡ got a next
-    → (f ≡ Field.There a) × (judge a ≡ Answer.Accepted)
-taken_there cut judge end Field.Missing a next e = let z : ◌≡◌ {A = ℕ} 0 1 = cc in absurd (omega arith)
-taken_there cut judge end (Field.There v) a next e =
-    let told = kept (judge v) v end a next e in (ap Field.There told.0, subst (λ (n : ℕ). judge n ≡ Answer.Accepted) told.0 told.1)
+taken_there : (cut : Refusal) (judge : ℕ → Answer) (end : ℕ) (f : Option ℕ) (a next : ℕ) → taken cut judge end f ≡ got a next
+    → (f ≡ Some a) × (judge a ≡ Ok tt)
+taken_there cut judge end None a next e = let z : ◌≡◌ {A = ℕ} 0 1 = cc in absurd (omega arith)
+taken_there cut judge end (Some v) a next e =
+    let told = kept (judge v) v end a next e in (ap Some told.0, subst (λ (n : ℕ). judge n ≡ Ok tt) told.0 told.1)
 
 -- a number that was read is below 2^w
 pub read_lt : (cut : Refusal) (w : ℕ) (judge : ℕ → Answer) (s : List ℕ) (at a next : ℕ) → field cut w judge s at ≡ got a next → a < 2 ^ w
 read_lt cut w judge s at a next e = there_lt s at w a (taken_there cut judge (at + w) (field_at s at w) a next e).0
 
 -- and was accepted
-pub read_accepted : (cut : Refusal) (w : ℕ) (judge : ℕ → Answer) (s : List ℕ) (at a next : ℕ) → field cut w judge s at ≡ got a next → judge a ≡ Answer.Accepted
+pub read_accepted : (cut : Refusal) (w : ℕ) (judge : ℕ → Answer) (s : List ℕ) (at a next : ℕ) → field cut w judge s at ≡ got a next → judge a ≡ Ok tt
 read_accepted cut w judge s at a next e = (taken_there cut judge (at + w) (field_at s at w) a next e).1
 
 -- two judges that agree on what was there lead on alike
-taken_same : (cut : Refusal) (judge other : ℕ → Answer) (end : ℕ) (f : Field) → ((v : ℕ) → f ≡ Field.There v → judge v ≡ other v)
+taken_same : (cut : Refusal) (judge other : ℕ → Answer) (end : ℕ) (f : Option ℕ) → ((v : ℕ) → f ≡ Some v → judge v ≡ other v)
     → taken cut judge end f ≡ taken cut other end f
-taken_same cut judge other end Field.Missing same = refl
-taken_same cut judge other end (Field.There v) same = ap (λ (x : Answer). judged x v end) (same v refl)
+taken_same cut judge other end None same = refl
+taken_same cut judge other end (Some v) same = ap (λ (x : Answer). judged x v end) (same v refl)
 
 -- two judges that agree on numbers below 2^w give the same reading
 pub field_same : (cut : Refusal) (w : ℕ) (judge other : ℕ → Answer) (s : List ℕ) (at : ℕ) → ((v : ℕ) → v < 2 ^ w → judge v ≡ other v)
@@ -70,7 +69,7 @@ not_refuted true no_way = refl
 not_refuted false no_way = absurd (no_way tt)
 
 -- a test that was passed holds
-passed_holds : (b : Bool) (r : Refusal) → unless b r ≡ Answer.Accepted → b ≡ true
+passed_holds : (b : Bool) (r : Refusal) → unless b r ≡ Ok tt → b ≡ true
 passed_holds true r e = refl
 passed_holds false r e = let z : ◌≡◌ {A = ℕ} 0 1 = cc in absurd (omega arith)
 

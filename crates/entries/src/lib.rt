@@ -6,9 +6,8 @@ ghost use Rattle.kinds.specs.Apart.{wide_of};
 ghost use Rattle.entries.specs.Entering.{operand_by, entered};
 ghost use Rattle.entries.specs.Takings.{got_of, operand_after};
 
-use bits::Field;
 use kinds::Operand;
-use refusals::{Answer, Refusal};
+use refusals::Refusal;
 use table::Entry;
 
 // An entry and the bit after it, or the refusal.
@@ -21,7 +20,7 @@ pub enum Entered {
 // An operand's number and the bit after it, if it is accepted.
 #[derive(Clone, Copy)]
 struct Taking {
-    answer: Answer,
+    answer: Result<(), Refusal>,
     number: u64,
     next: usize,
 }
@@ -41,9 +40,9 @@ fn judged(
     requires { (length s.now ≤ 4096) × ((w ≡ wide_of o) × (w ≡ 0 → at ≤ 8 * length s.now)) }
     ensures { got_of result ≡ operand_by sorts.now events.now q v k o s.now at }
 {
-    let Field::There(n) = bits::field_at(s, at, w) else {
+    let Some(n) = bits::field_at(s, at, w) else {
         return Taking {
-            answer: Answer::Refused(Refusal::Cut),
+            answer: Err(Refusal::Cut),
             number: 0,
             next: at,
         };
@@ -70,13 +69,13 @@ fn operand(
     ensures { got_of result ≡ operand_after sorts.now events.now q v k o s.now before }
 {
     let answer = before.answer;
-    let Answer::Accepted = answer else {
+    let Ok(()) = answer else {
         return before;
     };
     let w = o.width();
     if w == 0 {
         return Taking {
-            answer: Answer::Accepted,
+            answer: Ok(()),
             number: 0,
             next: before.next,
         };
@@ -93,19 +92,19 @@ pub fn read(
     v: usize,
     sorts: &[u8],
     events: &[bool],
-) -> Entered
+) -> Result<(Entry, usize), Refusal>
     ensures { result ≡ entered sorts.now events.now q v k s.now at }
 {
     let too_long = 4096 < s.len();
     if too_long {
-        return Entered::Refused(Refusal::TooLong);
+        return Err(Refusal::TooLong);
     }
-    let Field::There(kind) = bits::field_at(s, at, 5) else {
-        return Entered::Refused(Refusal::Cut);
+    let Some(kind) = bits::field_at(s, at, 5) else {
+        return Err(Refusal::Cut);
     };
     let unknown = 25 <= kind;
     if unknown {
-        return Entered::Refused(Refusal::Kind);
+        return Err(Refusal::Kind);
     }
     let places = kinds::apart_of(kinds::made(kind as usize, 0, 0, 0, 0));
     let first = places.first;
@@ -117,7 +116,7 @@ pub fn read(
     let c = operand(s, b, third, k, q, v, sorts, events);
     let answer = c.answer;
     match answer {
-        Answer::Accepted => Entered::Entry(
+        Ok(()) => Entered::Entry(
             kinds::made(
                 kind as usize,
                 (a.number % 65536) as u16,
@@ -127,6 +126,6 @@ pub fn read(
             ),
             c.next,
         ),
-        Answer::Refused(r) => Entered::Refused(r),
+        Err(r) => Err(r),
     }
 }

@@ -1,5 +1,5 @@
 -- The words of a step's reports, as far as they have been heard.
-use Rattle.std.specs.Prelude.{Bool, true, false, cond, List, [], ◌≡◌, refl, ℕ, ◌+◌, ◌-◌, ◌*◌, ◌<◌, ◌≤◌, ltb, set, replicate}
+use Rattle.std.specs.Prelude.{Bool, true, false, cond, List, [], ◌≡◌, refl, ℕ, ◌+◌, ◌-◌, ◌*◌, ◌<◌, ◌≤◌, ltb, set, replicate, Ok, Err}
 use Rattle.std.proofs.Common.{sym, ◌∙◌, arith, lt-ltb, le-ltb, length-set, get_or-set_same, get_or-set_other}
 use Rattle.std.proofs.Math.Path.{ap}
 use Rattle.std.proofs.Math.Decide.{dec_lt}
@@ -7,7 +7,7 @@ use Rattle.std.proofs.Math.ListN.{length}
 use Rattle.std.proofs.lemmas.List.{length-replicate}
 use Rattle.std.proofs.Math.Seq.{set_out}
 use Rattle.values.specs.declared.Truth.{Truth}
-use Rattle.refusals.specs.declared.Answer.{Answer}
+use Rattle.refusals.specs.Answers.{Answer}
 use Rattle.refusals.specs.declared.Refusal.{Refusal}
 use Rattle.bits.specs.Lists.{length_list}
 use Rattle.bits.specs.Filled.{list_all, list_set, get_d_padded}
@@ -67,11 +67,11 @@ module _ (slots : List ToldSlot) (full : length slots ≡ limits.imports) (i : �
 -- the answer to the reports and the end of a step, and the words of what they tell, whatever its time and whatever was reported before it
 pub record Gathered (t : Table) (count : ℕ) (s : List ℕ) (answer : Answer) (words : List ℕ) : Type 0 where
   pub answers : (before : List TruthSlot) (time : ℕ) → answer ≡ (taken_of before (after_count t time count s)).answer
-  pub times : (before : List TruthSlot) (time : ℕ) → answer ≡ Answer.Accepted → time ≡ (taken_of before (after_count t time count s)).time
-  pub told : (before : List TruthSlot) (time : ℕ) → answer ≡ Answer.Accepted → words ≡ told_words (taken_of before (after_count t time count s)).told
+  pub times : (before : List TruthSlot) (time : ℕ) → answer ≡ Ok tt → time ≡ (taken_of before (after_count t time count s)).time
+  pub told : (before : List TruthSlot) (time : ℕ) → answer ≡ Ok tt → words ≡ told_words (taken_of before (after_count t time count s)).told
 
 -- a refusal is no acceptance
-pub no_acceptance : {X : Type 0} (r : Refusal) → Answer.Refused r ≡ Answer.Accepted → X
+pub no_acceptance : {X : Type 0} (r : Refusal) → Err r ≡ Ok tt → X
 no_acceptance r e = absurd (let z : ◌≡◌ {A = ℕ} 0 1 = cc e in omega arith)
 
 -- nothing was reported before
@@ -95,7 +95,7 @@ any_told (refused r) before = refl
 
 module _ {t : Table} {count : ℕ} {s : List ℕ} where
   -- the first fault decides
-  gathered_refused : (r : Refusal) {words : List ℕ} → ((time : ℕ) → after_count t time count s ≡ refused r) → Gathered t count s (Answer.Refused r) words
+  gathered_refused : (r : Refusal) {words : List ℕ} → ((time : ℕ) → after_count t time count s ≡ refused r) → Gathered t count s (Err r) words
   gathered_refused r stops =
       record {
         answers = λ before time. ap (λ (g : Got Step). (taken_of before g).answer) (sym (stops time));
@@ -106,8 +106,8 @@ module _ {t : Table} {count : ℕ} {s : List ℕ} where
   -- there is none
   gathered_accepted : (slots : List ToldSlot) (reported : List TruthSlot) {words : List ℕ} → words ≡ told_words slots
       → ((time : ℕ) → taken_of unreported (after_count t time count s)
-      ≡ record { answer = Answer.Accepted; time = time; told = slots; reported = reported })
-      → Gathered t count s Answer.Accepted words
+      ≡ record { answer = Ok tt; time = time; told = slots; reported = reported })
+      → Gathered t count s (Ok tt) words
   gathered_accepted slots reported are taken =
       record {
         answers = λ before time. sym (ap (λ (x : Taken). x.answer) (taken time)) ∙ any_answer (after_count t time count s) before;
@@ -165,15 +165,15 @@ module _ {t : Table} {count : ℕ} {s words : List ℕ} {at least left : ℕ} (h
 
 module _ {t : Table} {count : ℕ} {s first words : List ℕ} {at least left : ℕ} (g : Gathers t count s first words at least left) where
   -- the next report is refused
-  pub gathers_stops : 0 < left → (r : Refusal) → next_report t least s at ≡ refused r → first ≡ replicate 64 0 → Gathered t count s (Answer.Refused r) words
+  pub gathers_stops : 0 < left → (r : Refusal) → next_report t least s at ≡ refused r → first ≡ replicate 64 0 → Gathered t count s (Err r) words
   gathers_stops more r e empty = gathered_refused r (λ time. next_stops (g.hears empty).sofar more time r e)
 
   -- no report is left: the end decides
   pub gathers_ends : left ≤ 0 → (answer : Answer) → answer ≡ closed s at → first ≡ replicate 64 0 → Gathered t count s answer words
-  gathers_ends none Answer.Accepted e empty =
+  gathers_ends none (Ok _) e empty =
       let h : Hears t count s words at least left = g.hears empty in
       gathered_accepted h.slots h.reported h.are (λ time. end_accepted h.sofar time none (sym e))
-  gathers_ends none (Answer.Refused r) e empty = gathered_refused r (λ time. end_refused (g.hears empty).sofar time none r (sym e))
+  gathers_ends none (Err r) e empty = gathered_refused r (λ time. end_refused (g.hears empty).sofar time none r (sym e))
 
   -- one report more
   pub gathers_more : 0 < left → {i word next : ℕ} → Reported (next_report t least s at) i word next

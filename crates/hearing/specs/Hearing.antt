@@ -1,7 +1,6 @@
 -- What is heard of a step: its answer, its time, and a word for what it tells of each import.
-use Rattle.std.specs.Prelude.{List, ◌≡◌, ℕ}
+use Rattle.std.specs.Prelude.{List, ◌≡◌, ℕ, Ok, Err}
 use Rattle.refusals.specs.declared.Refusal.{Refusal}
-use Rattle.refusals.specs.declared.Answer.{Answer}
 use Rattle.bits.specs.Bits.{list_to}
 use Rattle.table.specs.declared.Table.{Table}
 use Rattle.table.specs.Tables.{is_event}
@@ -22,10 +21,10 @@ told_words slots = list_to 64 (λ i. told_word (told_at slots i))
 
 -- a refusal; the time is not asked for then
 abbrev pub refused_heading : Refusal → Heading
-refused_heading r = record { answer = Answer.Refused r; time = 0 }
+refused_heading r = record { answer = Err r; time = 0 }
 
 -- what was heard is what the step says, whatever was reported before it
 pub record Heard (t : Table) (earliest : ℕ) (bytes : List ℕ) (r : Heading) (words : List ℕ) : Type 0 where
   pub answer : (before : List TruthSlot) → r.answer ≡ (taken_of before (read_step t earliest bytes 0)).answer
-  pub time : (before : List TruthSlot) → r.answer ≡ Answer.Accepted → r.time ≡ (taken_of before (read_step t earliest bytes 0)).time
-  pub told : (before : List TruthSlot) → r.answer ≡ Answer.Accepted → words ≡ told_words (taken_of before (read_step t earliest bytes 0)).told
+  pub time : (before : List TruthSlot) → r.answer ≡ Ok tt → r.time ≡ (taken_of before (read_step t earliest bytes 0)).time
+  pub told : (before : List TruthSlot) → r.answer ≡ Ok tt → words ≡ told_words (taken_of before (read_step t earliest bytes 0)).told

@@ -1,13 +1,12 @@
 -- A table of which only the imports are lent: a step reads the same by it as by the whole table.
-use Rattle.std.specs.Prelude.{Bool, true, false, ◌≡◌, eqb, leb, get_or}
+use Rattle.std.specs.Prelude.{Bool, true, false, ◌≡◌, eqb, leb, get_or, Ok, Err, Some, None, Option, ℕ}
 use mathlib.Core.List.{List, [], ◌∷◌, ◌++◌}
 use Rattle.std.proofs.Math.Path.{refl, sym, ap}
 use Rattle.std.proofs.Common.{◌∙◌, arith}
 use Prim.Native.Nat.{ℕ, zero, suc, ◌+◌, ◌<◌}
 use Rattle.refusals.specs.declared.Refusal.{Refusal}
-use Rattle.refusals.specs.declared.Answer.{Answer}
+use Rattle.refusals.specs.Answers.{Answer}
 use Rattle.refusals.specs.Numbering.{unless}
-use Rattle.bits.specs.declared.Field.{Field}
 use Rattle.bits.specs.Bits.{field_at, list_to}
 use Rattle.bits.specs.Lists.{get_d_list}
 use Rattle.bits.specs.Fields.{there_lt}
@@ -38,14 +37,14 @@ event_word_lem false = refl
 -- two ways to go on that are the same for a number at hand, which is judged first
 same_judged : {B : Type 0} (answer : Answer) (v next : ℕ) (f g : ℕ → ℕ → Got B) → f v next ≡ g v next
     → onward (judged answer v next) f ≡ onward (judged answer v next) g
-same_judged Answer.Accepted v next f g same = same
-same_judged (Answer.Refused r) v next f g same = refl
+same_judged (Ok _) v next f g same = same
+same_judged (Err r) v next f g same = refl
 
 -- and for a field's answer
-same_taken : {B : Type 0} (cut : Refusal) (judge : ℕ → Answer) (next : ℕ) (there : Field) (f g : ℕ → ℕ → Got B)
-    → ((v : ℕ) → there ≡ Field.There v → f v next ≡ g v next) → onward (taken cut judge next there) f ≡ onward (taken cut judge next there) g
-same_taken cut judge next Field.Missing f g same = refl
-same_taken cut judge next (Field.There v) f g same = same_judged (judge v) v next f g (same v refl)
+same_taken : {B : Type 0} (cut : Refusal) (judge : ℕ → Answer) (next : ℕ) (there : Option ℕ) (f g : ℕ → ℕ → Got B)
+    → ((v : ℕ) → there ≡ Some v → f v next ≡ g v next) → onward (taken cut judge next there) f ≡ onward (taken cut judge next there) g
+same_taken cut judge next None f g same = refl
+same_taken cut judge next (Some v) f g same = same_judged (judge v) v next f g (same v refl)
 
 module _ (t : Table) (events : List ℕ) (are : events ≡ event_words t) where
   -- an import of 6 bits is an event of the one if it is one of the other

@@ -1,8 +1,8 @@
 -- What a caller may look at of a step that was heard: the refusal, or the time and the words. It is determined.
-use Rattle.std.specs.Prelude.{List, [], ◌≡◌, refl, ℕ}
+use Rattle.std.specs.Prelude.{List, [], ◌≡◌, refl, ℕ, Ok, Err}
 use Rattle.std.proofs.Common.{sym, ◌∙◌, ap, ap₂}
 use Rattle.refusals.specs.declared.Refusal.{Refusal}
-use Rattle.refusals.specs.declared.Answer.{Answer}
+use Rattle.refusals.specs.Answers.{Answer}
 use Rattle.table.specs.declared.Table.{Table}
 use Rattle.step.specs.Reader.{read_step}
 use Rattle.step.specs.Taking.{taken_of}
@@ -16,18 +16,18 @@ pub data Reply : Type 0 where
 
 -- the time and the words are looked at only where nothing was refused
 abbrev pub reply_by : Answer → ℕ → List ℕ → Reply
-reply_by Answer.Accepted time words = telling time words
-reply_by (Answer.Refused r) time words = refusing r
+reply_by (Ok _) time words = telling time words
+reply_by (Err r) time words = refusing r
 
 -- what a caller may look at
 abbrev pub reply_of : Heading → List ℕ → Reply
 reply_of h words = reply_by h.answer h.time words
 
 -- at one answer, times and words that are the same where it accepts
-reply_same : (a : Answer) {time₁ time₂ : ℕ} {words₁ words₂ : List ℕ} → (a ≡ Answer.Accepted → time₁ ≡ time₂) → (a ≡ Answer.Accepted → words₁ ≡ words₂)
+reply_same : (a : Answer) {time₁ time₂ : ℕ} {words₁ words₂ : List ℕ} → (a ≡ Ok tt → time₁ ≡ time₂) → (a ≡ Ok tt → words₁ ≡ words₂)
     → reply_by a time₁ words₁ ≡ reply_by a time₂ words₂
-reply_same Answer.Accepted times words = ap₂ telling (times refl) (words refl)
-reply_same (Answer.Refused r) times words = refl
+reply_same (Ok _) times words = ap₂ telling (times refl) (words refl)
+reply_same (Err r) times words = refl
 
 module _ {t : Table} {earliest : ℕ} {s : List ℕ} where
   -- what was heard is the step's own reply

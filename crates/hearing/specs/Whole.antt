@@ -1,7 +1,7 @@
 -- A whole step heard, from what is heard of its stages.
 use Rattle.std.specs.Prelude.{List, ◌≡◌, ℕ}
 use Rattle.std.proofs.Common.{sym, ◌∙◌, ap}
-use Rattle.refusals.specs.declared.Answer.{Answer}
+use Rattle.refusals.specs.Answers.{Answer}
 use Rattle.refusals.specs.declared.Refusal.{Refusal}
 use Rattle.bits.specs.Reading.{Got, refused}
 use Rattle.table.specs.declared.Table.{Table}

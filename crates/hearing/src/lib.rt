@@ -5,12 +5,12 @@ mod reading;
 mod report;
 
 pub use reading::hear;
-use refusals::{Answer, Refusal};
+use refusals::Refusal;
 
 // A step that was heard: its time, or the refusal.
 #[derive(Clone, Copy)]
 pub struct Heading {
-    pub answer: Answer,
+    pub answer: Result<(), Refusal>,
     pub time: u64,
 }
 

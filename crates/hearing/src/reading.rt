@@ -9,8 +9,7 @@ ghost use Rattle.hearing.specs.Gathering.{kept_at, Gathered};
 
 use crate::report::next_report;
 use crate::{Heading, Next};
-use bits::Field;
-use refusals::{Answer, Refusal};
+use refusals::Refusal;
 use table::Table;
 
 // A refusal; the time is not asked for then.
@@ -18,7 +17,7 @@ fn refused(refusal: Refusal) -> Heading
     ensures { result ≡ refused_heading refusal }
 {
     Heading {
-        answer: Answer::Refused(refusal),
+        answer: Err(refusal),
         time: 0,
     }
 }
@@ -35,39 +34,45 @@ fn keep(told: &mut [u64], i: usize, word: u64)
 }
 
 // The bits from `at` on up to the end of its byte, or the answer that they are not there.
-fn rest_of_byte(s: &[u8], at: usize, w: usize) -> Field
+fn rest_of_byte(s: &[u8], at: usize, w: usize) -> Option<u64>
     requires { w ≡ padding_at at }
     ensures { result ≡ field_at s.now at w }
 {
     if w == 0 {
         return bits::field_at(s, at, w);
     }
-    let Field::There(byte) = bits::byte_at(s, at / 8) else {
-        return Field::Missing;
+    let Some(byte) = bits::byte_at(s, at / 8) else {
+        return None;
     };
-    Field::There(byte % (1u64 << w))
+    Some(byte % (1u64 << w))
 }
 
 // "Zero bits up to a whole byte end it."
-fn close(s: &[u8], at: usize) -> Answer
+fn close(s: &[u8], at: usize) -> Result<(), Refusal>
     requires { at ≤ 4096 }
     ensures { result ≡ closed s.now at }
 {
     let w = (8 - at % 8) % 8;
-    let Field::There(zeros) = rest_of_byte(s, at, w) else {
-        return Answer::Refused(Refusal::StepCut);
+    let Some(zeros) = rest_of_byte(s, at, w) else {
+        return Err(Refusal::StepCut);
     };
     if zeros != 0 {
-        return Answer::Refused(Refusal::StepPadding);
+        return Err(Refusal::StepPadding);
     }
     if (at + w) / 8 != s.len() {
-        return Answer::Refused(Refusal::StepLeftOver);
+        return Err(Refusal::StepLeftOver);
     }
-    Answer::Accepted
+    Ok(())
 }
 
 // "the reports, import numbers strictly rising", and the end of the step.
-fn reports(q: usize, count: usize, events: &[u64], s: &[u8], told: &mut [u64]) -> Answer
+fn reports(
+    q: usize,
+    count: usize,
+    events: &[u64],
+    s: &[u8],
+    told: &mut [u64],
+) -> Result<(), Refusal>
     requires { count ≤ 63 }
     ensures { told.old ≡ replicate 64 0 → Gathered (lent q events.now) count s.now result told.new }
 {
@@ -77,7 +82,7 @@ fn reports(q: usize, count: usize, events: &[u64], s: &[u8], told: &mut [u64]) -
     while 0 < left {
         match next_report(s, at, q, least, events) {
             Next::Refused(r) => {
-                return Answer::Refused(r);
+                return Err(r);
             }
             Next::Report(i, word, next) => {
                 keep(told, i, word);
@@ -94,13 +99,13 @@ fn reports(q: usize, count: usize, events: &[u64], s: &[u8], told: &mut [u64]) -
 pub fn hear(q: usize, earliest: u64, events: &[u64], s: &[u8], told: &mut [u64]) -> Heading
     ensures { (t : tables.Table) → t.q ≡ q → events.now ≡ event_words t → told.old ≡ replicate 64 0 → Heard t earliest s.now result told.new }
 {
-    let Field::There(time) = bits::field_at(s, 0, 47) else {
+    let Some(time) = bits::field_at(s, 0, 47) else {
         return refused(Refusal::StepCut);
     };
     if time < earliest {
         return refused(Refusal::Time);
     }
-    let Field::There(count) = bits::field_at(s, 47, 6) else {
+    let Some(count) = bits::field_at(s, 47, 6) else {
         return refused(Refusal::StepCut);
     };
     Heading {

@@ -9,7 +9,6 @@ ghost use Rattle.hearing.specs.Lent.{lent};
 ghost use Rattle.hearing.specs.Nexts.{next_of};
 
 use crate::Next;
-use bits::Field;
 use refusals::Refusal;
 
 // "00 false, 01 true, 10 undefined"
@@ -41,7 +40,7 @@ fn condition(s: &[u8], at: usize, i: usize) -> Next
     requires { at ≤ 65536 }
     ensures { result ≡ next_of (about i (condition_report s.now at)) }
 {
-    let Field::There(code) = bits::field_at(s, at, 2) else {
+    let Some(code) = bits::field_at(s, at, 2) else {
         return Next::Refused(Refusal::StepCut);
     };
     if 3 <= code {
@@ -55,14 +54,14 @@ fn event(s: &[u8], at: usize, i: usize) -> Next
     requires { at ≤ 65536 }
     ensures { result ≡ next_of (about i (event_report s.now at)) }
 {
-    let Field::There(bit) = bits::field_at(s, at, 1) else {
+    let Some(bit) = bits::field_at(s, at, 1) else {
         return Next::Refused(Refusal::StepCut);
     };
     let first = at + 1;
     if bit != 1 {
         return Next::Report(i, 4, first);
     }
-    let Field::There(value) = bits::field_at(s, first, 48) else {
+    let Some(value) = bits::field_at(s, first, 48) else {
         return Next::Refused(Refusal::StepCut);
     };
     Next::Report(i, value_word(value), first + 48)
@@ -94,7 +93,7 @@ pub(crate) fn next_report(s: &[u8], at: usize, q: usize, least: usize, events: &
     requires { at ≤ 4096 }
     ensures { result ≡ next_of (next_report (lent q events.now) least s.now at) }
 {
-    let Field::There(i) = bits::field_at(s, at, 6) else {
+    let Some(i) = bits::field_at(s, at, 6) else {
         return Next::Refused(Refusal::StepCut);
     };
     let i = i as usize;

@@ -1,9 +1,8 @@
 -- "Marked examples": P1 to P12, proved about the definitions by one statement over one list.
-use Rattle.std.specs.Prelude.{Bool, true, false, List, [], ◌∷◌, ◌++◌, map, reverse, ◌≡◌, refl, ℕ, ◌-◌, ◌^◌, pos, length, replicate}
+use Rattle.std.specs.Prelude.{Bool, true, false, List, [], ◌∷◌, ◌++◌, map, reverse, ◌≡◌, refl, ℕ, ◌-◌, ◌^◌, pos, length, replicate, Ok}
 use Rattle.values.specs.declared.Truth.{Truth}
 use Rattle.values.specs.declared.Number.{Number}
 use Rattle.values.specs.Outcomes.{Said, true-condition, false-condition, undefined-condition, occurs, does-not-occur, undefined_number, whole_number, said}
-use Rattle.refusals.specs.declared.Answer.{Answer}
 use Rattle.refusals.specs.Numbering.{first_fault}
 use Rattle.table.specs.declared.Entry.{Entry}
 use Rattle.table.specs.declared.Entry.TheVariants.{ImportedCondition, Defined, Pair, Or, And, Implies, Less, ImportedEvent, Start, End, Constant, Variable, Sum, Update}
@@ -154,6 +153,6 @@ unfolding answer_by said the_logic
 marked_examples = refl
 
 -- and every table of the list is one that the monitor takes
-pub marked_tables_sound : map (λ c. table_fault c.table) cases ≡ map (λ c. Answer.Accepted) cases
+pub marked_tables_sound : map (λ c. table_fault c.table) cases ≡ map (λ c. (Ok tt)) cases
 unfolding table_fault limits_fault number_fault operands_fault operand_fault unused_slots every_slot first_fault entry_at initial_of is_event import_sort sort_of operands_of
 marked_tables_sound = refl

@@ -3,7 +3,7 @@ use mathlib.Core.List.{List}
 use mathlib.Core.Path.{◌≡◌}
 use Prim.Native.Nat.{ℕ}
 use lib.ListN.{length}
-use Rattle.refusals.specs.declared.Answer.{Answer}
+use Rattle.refusals.specs.Answers.{Answer}
 use Rattle.monitor.specs.declared.Monitor.{Monitor}
 use Rattle.words.specs.Layout.{state_of}
 use Rattle.hearing.specs.Reply.{DeterminedWhere}

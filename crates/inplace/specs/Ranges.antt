@@ -1,5 +1,5 @@
 -- What a walk over the entries leaves: every number and every kept time in range, and every slot in its place.
-use Rattle.std.specs.Prelude.{Bool, true, false, cond, ◌≡◌, refl, length, get_or, set}
+use Rattle.std.specs.Prelude.{Bool, true, false, cond, ◌≡◌, refl, length, get_or, set, Ok}
 use mathlib.Core.List.{List, [], ◌∷◌}
 use Rattle.std.proofs.Common.{◌∙◌, arith, length-set, get_or-set_other}
 use Rattle.std.proofs.Math.Path.{ap}
@@ -14,7 +14,6 @@ use Rattle.values.specs.declared.Slot.{Slot}
 use Rattle.values.specs.Truths.{is_true, is_false}
 use Rattle.values.specs.Numbers.{fits_n}
 use Rattle.values.specs.Outcomes.{condition_in, event_in, number_in, is_done}
-use Rattle.refusals.specs.declared.Answer.{Answer}
 use Rattle.bits.specs.Filled.{get_d_padded}
 use Rattle.table.specs.declared.VariableSlot.{VariableSlot}
 use Rattle.table.specs.Limits.{limits}
@@ -79,7 +78,7 @@ given_fits : (b : Bool) (v : ℕ) (n : Number) (held : List VariableSlot) → fi
 given_fits true v n held here each x = all_set (λ slot. fits_n slot.number ≡ true) _ (record { number = n }) held here each v x
 given_fits false v n held here each x = each x
 
-module _ (m : Monitor) (shape : Kept m) (good : unsound m ≡ Answer.Accepted) where
+module _ (m : Monitor) (shape : Kept m) (good : unsound m ≡ Ok tt) where
   -- what a sound monitor holds is in range, and past the slots there is nothing
   held_first : (x : ℕ) → fits_n (held_in m x) ≡ true
   held_first x =

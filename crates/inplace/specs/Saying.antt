@@ -1,11 +1,10 @@
 -- What a step that was read says of a monitor's imports, and that what it says is in range.
-use Rattle.std.specs.Prelude.{true, false, cond, List, [], ◌∷◌, ◌++◌, ◌≡◌, refl, ℕ, zero, suc, ◌+◌, ◌<◌, ◌≤◌, eqb, length}
+use Rattle.std.specs.Prelude.{true, false, cond, List, [], ◌∷◌, ◌++◌, ◌≡◌, refl, ℕ, zero, suc, ◌+◌, ◌<◌, ◌≤◌, eqb, length, Ok}
 use Rattle.std.proofs.Common.{sym, ◌∙◌, ap, arith, ne_eqb}
 use Rattle.std.proofs.Math.Decide.{dec_lt}
 use Rattle.std.proofs.Math.ListN.{get_or-eq_default}
 use Rattle.values.specs.Numbers.{fits_n}
 use Rattle.refusals.specs.declared.Refusal.{Refusal}
-use Rattle.refusals.specs.declared.Answer.{Answer}
 use Rattle.refusals.specs.Accepting.{not_accepted}
 use Rattle.bits.specs.Bits.{list_to}
 use Rattle.bits.specs.Lists.{length_list, get_d_list}
@@ -85,7 +84,7 @@ reported_by before rs =
 
 module _ (m : Monitor) where
   -- what a step that was read says of the imports
-  spoken_by : (read : Got Step) → (taken_of m.reported read).answer ≡ Answer.Accepted → Gives read (λ step next. Below m.table.q step.reports)
+  spoken_by : (read : Got Step) → (taken_of m.reported read).answer ≡ Ok tt → Gives read (λ step next. Below m.table.q step.reports)
       → Spoken m (taken_of m.reported read)
   spoken_by (got step end) good low =
       record {
@@ -98,7 +97,7 @@ module _ (m : Monitor) where
   spoken_by (refused r) good low = not_accepted r good
 
   -- and that it is in range
-  fits_by : (read : Got Step) → (taken_of m.reported read).answer ≡ Answer.Accepted → Gives read (λ step next. StepFits step)
+  fits_by : (read : Got Step) → (taken_of m.reported read).answer ≡ Ok tt → Gives read (λ step next. StepFits step)
       → TakenFits (taken_of m.reported read)
   fits_by (got step end) good so =
       let fits = so.told step end refl in
@@ -112,7 +111,7 @@ module _ (m : Monitor) where
       }
   fits_by (refused r) good so = not_accepted r good
 
-  module _ (bytes : List ℕ) (accepted : (taken_by m bytes).answer ≡ Answer.Accepted) where
+  module _ (bytes : List ℕ) (accepted : (taken_by m bytes).answer ≡ Ok tt) where
     -- so it is with the step that a monitor takes
     pub taken_spoken : Spoken m (taken_by m bytes)
     unfolding taken_by

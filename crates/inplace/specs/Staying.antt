@@ -1,9 +1,9 @@
 -- "Neither falls under 29": whatever sound monitor takes a step, the one that it leaves is sound, and has its slots.
-use Rattle.std.specs.Prelude.{◌≡◌, List, ℕ, suc, ◌^◌}
+use Rattle.std.specs.Prelude.{◌≡◌, List, ℕ, suc, ◌^◌, Ok, Err}
 use Rattle.std.proofs.Math.Path.{refl, ap}
 use Rattle.std.proofs.Common.{sym, subst, arith}
 use borrow.Author.Tests.{le-leb}
-use Rattle.refusals.specs.declared.Answer.{Answer}
+use Rattle.refusals.specs.Answers.{Answer}
 use Rattle.step.specs.declared.Taken.{Taken}
 use Rattle.monitor.specs.declared.Monitor.{Monitor}
 use Rattle.monitor.specs.declared.Stepped.{Stepped}
@@ -19,7 +19,7 @@ use Rattle.inplace.specs.Walking.{after_kept}
 -- a monitor that can be lent as words: it has its slots, and 29 does not stop it
 pub record Standing (m : Monitor) : Type 0 where
   pub shape : Kept m
-  pub sound : unsound m ≡ Answer.Accepted
+  pub sound : unsound m ≡ Ok tt
 
 module _ (m : Monitor) (standing : Standing m) where
   -- an accepted step leaves such a one
@@ -38,10 +38,10 @@ module _ (m : Monitor) (standing : Standing m) where
   step_stands bytes = by (taken_by m bytes).answer refl
     where
       by : (a : Answer) → (taken_by m bytes).answer ≡ a → Standing (step_of m bytes).monitor
-      by Answer.Accepted is =
+      by (Ok _) is =
           subst Standing (sym (ap (λ (x : Stepped). x.monitor) (step_accepted m standing.sound bytes is)))
           (advanced_stands (taken_by m bytes) (taken_fits m bytes is))
-      by (Answer.Refused r) is = subst Standing (sym (ap (λ (x : Stepped). x.monitor) (step_refused m standing.sound bytes r is))) standing
+      by (Err r) is = subst Standing (sym (ap (λ (x : Stepped). x.monitor) (step_refused m standing.sound bytes r is))) standing
 
   -- "an accepted step's monitor holds the same table", and so does a refused one's
   pub step_table : (bytes : List ℕ) → (step_of m bytes).monitor.table ≡ m.table
@@ -49,5 +49,5 @@ module _ (m : Monitor) (standing : Standing m) where
   step_table bytes = by (taken_by m bytes).answer refl
     where
       by : (a : Answer) → (taken_by m bytes).answer ≡ a → (step_of m bytes).monitor.table ≡ m.table
-      by Answer.Accepted is = ap (λ (x : Stepped). x.monitor.table) (step_accepted m standing.sound bytes is)
-      by (Answer.Refused r) is = ap (λ (x : Stepped). x.monitor.table) (step_refused m standing.sound bytes r is)
+      by (Ok _) is = ap (λ (x : Stepped). x.monitor.table) (step_accepted m standing.sound bytes is)
+      by (Err r) is = ap (λ (x : Stepped). x.monitor.table) (step_refused m standing.sound bytes r is)

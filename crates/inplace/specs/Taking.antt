@@ -1,5 +1,5 @@
 -- A step taken in place answers as the monitor does, leaves the words of the monitor after it, and shows its results.
-use Rattle.std.specs.Prelude.{Bool, true, false, ◌&&◌, ◌≡◌, refl, length, replicate, take, drop}
+use Rattle.std.specs.Prelude.{Bool, true, false, ◌&&◌, ◌≡◌, refl, length, replicate, take, drop, Ok, Err}
 use Rattle.std.proofs.Math.Bool.{cond}
 use mathlib.Core.List.{List}
 use Rattle.std.proofs.Math.Path.{sym, ap}
@@ -10,7 +10,7 @@ use native.Mathlib.Omega.{arith}
 use Rattle.std.proofs.Math.Dec.{ltb}
 use Rattle.std.proofs.Math.ListN.{get_or, set}
 use Rattle.refusals.specs.declared.Refusal.{Refusal}
-use Rattle.refusals.specs.declared.Answer.{Answer}
+use Rattle.refusals.specs.Answers.{Answer}
 use Rattle.bits.specs.Bits.{list_to}
 use Rattle.bits.specs.Lists.{get_d_list}
 use Rattle.bits.specs.Filled.{list_is}
@@ -57,7 +57,7 @@ module _ (told : List ℕ) (n q time : ℕ) (state results : List ℕ) (long : l
       (add-one time ∙ ap suc ready.now)
 
   -- and the first result is not known yet
-  forgotten_rows : (m : Monitor) (s : Taken) → unsound m ≡ Answer.Accepted → n ≡ m.table.n → (j : ℕ) → j < 1 → get_or row j 0 ≡ outcome_word (result_in (walk_to m s 0).results j)
+  forgotten_rows : (m : Monitor) (s : Taken) → unsound m ≡ Ok tt → n ≡ m.table.n → (j : ℕ) → j < 1 → get_or row j 0 ≡ outcome_word (result_in (walk_to m s 0).results j)
   unfolding walk_to outcome_word
   forgotten_rows m s good entries j first =
       let here : j ≡ 0 = omega arith in
@@ -75,15 +75,15 @@ module _ (told : List ℕ) (n q time : ℕ) (state results : List ℕ) (long : l
 
 -- whether an answer is an acceptance
 abbrev pub is_accepted : Answer → Bool
-is_accepted Answer.Accepted = true
-is_accepted (Answer.Refused r) = false
+is_accepted (Ok _) = true
+is_accepted (Err r) = false
 
 -- what the slots hold after a step, by what they held before: the first n have its results where it was accepted; else they stay
 unfoldable pub shown_over : Stepped → ℕ → List ℕ → List ℕ
 shown_over reply n before = list_to 128 (λ j. cond (is_accepted reply.answer && ltb j n) (outcome_word (result_in reply.results j)) (get_or before j 0))
 
 -- each of the first n slots shows its result's word, where the step was accepted
-pub shown_at : (reply : Stepped) (n : ℕ) (before : List ℕ) (k : ℕ) → reply.answer ≡ Answer.Accepted → k < n → n ≤ 128
+pub shown_at : (reply : Stepped) (n : ℕ) (before : List ℕ) (k : ℕ) → reply.answer ≡ Ok tt → k < n → n ≤ 128
     → get_or (shown_over reply n before) k 0 ≡ outcome_word (result_in reply.results k)
 unfolding shown_over
 shown_at reply n before k good below few =
@@ -99,25 +99,25 @@ pub record Taking (m : Monitor) (bytes : List ℕ) (r : Answer) (results later s
 
 -- whatever sound monitor the words are those of
 pub record Took (bytes : List ℕ) (r : Answer) (state results later shown : List ℕ) : Type 0 where
-  pub taken : (m : Monitor) → Kept m → unsound m ≡ Answer.Accepted → state ≡ state_of m → length results ≡ 128 → Taking m bytes r results later shown
+  pub taken : (m : Monitor) → Kept m → unsound m ≡ Ok tt → state ≡ state_of m → length results ≡ 128 → Taking m bytes r results later shown
 
 -- the same, where n and q were read from the words
 pub record Takes (n q : ℕ) (bytes : List ℕ) (r : Answer) (state results later shown : List ℕ) : Type 0 where
-  pub taken : (m : Monitor) → Kept m → unsound m ≡ Answer.Accepted → n ≡ m.table.n → q ≡ m.table.q → state ≡ state_of m
+  pub taken : (m : Monitor) → Kept m → unsound m ≡ Ok tt → n ≡ m.table.n → q ≡ m.table.q → state ≡ state_of m
       → Taking m bytes r results later shown
 
-module _ (m : Monitor) (good : unsound m ≡ Answer.Accepted) (bytes : List ℕ) where
+module _ (m : Monitor) (good : unsound m ≡ Ok tt) (bytes : List ℕ) where
   -- a sound monitor answers by what was read
   step_is : step_of m bytes ≡ step_reply (taken_by m bytes).answer m (taken_by m bytes)
   unfolding step_of
   step_is = ap (λ (a : Answer). sound_step a m bytes) good
 
   -- an accepted step
-  pub step_accepted : (taken_by m bytes).answer ≡ Answer.Accepted → step_of m bytes ≡ advanced m (taken_by m bytes)
+  pub step_accepted : (taken_by m bytes).answer ≡ Ok tt → step_of m bytes ≡ advanced m (taken_by m bytes)
   step_accepted e = step_is ∙ ap (λ (a : Answer). step_reply a m (taken_by m bytes)) e
 
   -- and a refused one
-  pub step_refused : (r : Refusal) → (taken_by m bytes).answer ≡ Answer.Refused r → step_of m bytes ≡ refused_step r m
+  pub step_refused : (r : Refusal) → (taken_by m bytes).answer ≡ Err r → step_of m bytes ≡ refused_step r m
   step_refused r e = step_is ∙ ap (λ (a : Answer). step_reply a m (taken_by m bytes)) e
 
 -- the monitor after all entries
@@ -148,17 +148,17 @@ module _ (n q : ℕ) (bytes state results told : List ℕ) (heading : Heading) (
   answers m imports words = (listen.heard m imports words).answer m.reported
 
   -- what is told, where the step is accepted
-  told_is : (m : Monitor) → q ≡ m.table.q → state ≡ state_of m → heading.answer ≡ Answer.Accepted → told ≡ told_words (taken_by m bytes).told
+  told_is : (m : Monitor) → q ≡ m.table.q → state ≡ state_of m → heading.answer ≡ Ok tt → told ≡ told_words (taken_by m bytes).told
   unfolding taken_by
   told_is m imports words is = (listen.heard m imports words).told m.reported is
 
   -- and when
-  time_is : (m : Monitor) → q ≡ m.table.q → state ≡ state_of m → heading.answer ≡ Answer.Accepted → heading.time ≡ (taken_by m bytes).time
+  time_is : (m : Monitor) → q ≡ m.table.q → state ≡ state_of m → heading.answer ≡ Ok tt → heading.time ≡ (taken_by m bytes).time
   unfolding taken_by
   time_is m imports words is = (listen.heard m imports words).time m.reported is
 
   -- "A refused step returns the monitor unchanged": its words, and the slots as they were
-  pub takes_refused : (r : Refusal) → heading.answer ≡ Answer.Refused r → Takes n q bytes (Answer.Refused r) state results state results
+  pub takes_refused : (r : Refusal) → heading.answer ≡ Err r → Takes n q bytes (Err r) state results state results
   unfolding shown_over
   takes_refused r is =
       record {
@@ -172,14 +172,14 @@ module _ (n q : ℕ) (bytes state results told : List ℕ) (heading : Heading) (
       }
 
   -- no step that is read has a time out of range
-  pub takes_late : heading.answer ≡ Answer.Accepted → 2 ^ 47 ≤ heading.time → Takes n q bytes (Answer.Refused Refusal.Unsound) state results state results
+  pub takes_late : heading.answer ≡ Ok tt → 2 ^ 47 ≤ heading.time → Takes n q bytes (Err Refusal.Unsound) state results state results
   takes_late is late =
       record {
         taken = λ m shape good entries imports words.
             absurd (omega (arith, (taken_fits m bytes (sym (answers m imports words) ∙ is)).time, time_is m imports words is, late));
       }
 
-  module _ {time : ℕ} {later shown : List ℕ} (is : heading.answer ≡ Answer.Accepted) (stamp : time ≡ heading.time) (slots : length shown ≡ 128)
+  module _ {time : ℕ} {later shown : List ℕ} (is : heading.answer ≡ Ok tt) (stamp : time ≡ heading.time) (slots : length shown ≡ 128)
       (adv : Advanced told n q time state results later shown) where
     -- the slots show the results: each of the first n, and the others stay
     slots_shown : (m : Monitor) (s : Taken) → n ≡ m.table.n
@@ -194,12 +194,12 @@ module _ (n q : ℕ) (bytes state results told : List ℕ) (heading : Heading) (
         ])
 
     -- an accepted one leaves the monitor after it, and its results
-    pub takes_accepted : Takes n q bytes Answer.Accepted state results later shown
+    pub takes_accepted : Takes n q bytes (Ok tt) state results later shown
     unfolding advanced
     takes_accepted = record { taken = λ m shape good entries imports words. by m shape good entries imports words }
       where
-        by : (m : Monitor) → Kept m → unsound m ≡ Answer.Accepted → n ≡ m.table.n → q ≡ m.table.q → state ≡ state_of m
-            → Taking m bytes Answer.Accepted results later shown
+        by : (m : Monitor) → Kept m → unsound m ≡ Ok tt → n ≡ m.table.n → q ≡ m.table.q → state ≡ state_of m
+            → Taking m bytes (Ok tt) results later shown
         by m shape good entries imports words =
             let s = taken_by m bytes in
             let read = sym (answers m imports words) ∙ is in

@@ -1,5 +1,5 @@
 -- The walk over the entries in place: the words are those of the monitor so far, and one entry more.
-use Rattle.std.specs.Prelude.{Bool, true, false, ◌≡◌, refl, ℕ, suc, ◌+◌, ◌-◌, ◌/◌, ◌%◌, ◌<◌, ◌≤◌, length}
+use Rattle.std.specs.Prelude.{Bool, true, false, ◌≡◌, refl, ℕ, suc, ◌+◌, ◌-◌, ◌/◌, ◌%◌, ◌<◌, ◌≤◌, length, Ok}
 use mathlib.Core.List.{List}
 use Rattle.std.proofs.Common.{sym, ◌∙◌, subst, add-one, arith, length-set, get_or-set_same, get_or-set_other}
 use Rattle.std.proofs.Math.Path.{ap, ap₂}
@@ -8,7 +8,6 @@ use Rattle.std.proofs.Math.ListN.{get_or, set}
 use Rattle.values.specs.declared.Outcome.{Outcome}
 use Rattle.values.specs.declared.Slot.{Slot}
 use Rattle.values.specs.Outcomes.{number_in, is_done}
-use Rattle.refusals.specs.declared.Answer.{Answer}
 use Rattle.bits.specs.Lists.{get_d_list}
 use Rattle.table.specs.declared.Entry.{Entry}
 use Rattle.table.specs.Kinds.{kind_of, operands_of}
@@ -38,7 +37,7 @@ use Rattle.inplace.specs.Numbers.{number_taken, number_taken_lem, not_a_constant
 -- a sound monitor, and a step that was taken, told in words
 pub record Ready (m : Monitor) (s : Taken) (told : List ℕ) (time : ℕ) : Type 0 where
   pub shape : Kept m
-  pub sound : unsound m ≡ Answer.Accepted
+  pub sound : unsound m ≡ Ok tt
   pub fits : TakenFits s
   pub heard : told ≡ told_words s.told
   pub now : time ≡ s.time

@@ -5,7 +5,7 @@ ghost use Rattle.inplace.specs.Taking.{Advanced, Takes, Took};
 
 use crate::walk::{forget, walk};
 use hearing::hear;
-use refusals::{Answer, Refusal};
+use refusals::Refusal;
 
 // The word of an import's last reported value: this step's report of a condition, else what was reported before.
 fn report_word(told: u64, before: u64) -> u64
@@ -50,7 +50,13 @@ fn advance(state: &mut [u64], told: &[u64], results: &mut [u64], n: usize, q: us
 }
 
 // A step of words that have the room of a monitor: what the bytes say, then the entries in order.
-fn heard(state: &mut [u64], s: &[u8], results: &mut [u64], n: usize, q: usize) -> Answer
+fn heard(
+    state: &mut [u64],
+    s: &[u8],
+    results: &mut [u64],
+    n: usize,
+    q: usize,
+) -> Result<(), Refusal>
     requires { (length state.old ≡ 452) × (length results.old ≡ 128) × (n ≤ 128) × (q ≤ 48) }
     ensures { Takes n q s.now result state.old results.old state.new results.new }
 {
@@ -58,36 +64,36 @@ fn heard(state: &mut [u64], s: &[u8], results: &mut [u64], n: usize, q: usize) -
     let heading = hear(q, state[3], &state[324..388], s, &mut told);
     let answer = heading.answer;
     match answer {
-        Answer::Refused(r) => Answer::Refused(r),
-        Answer::Accepted => {
+        Err(r) => Err(r),
+        Ok(()) => {
             if 140737488355328 <= heading.time {
-                return Answer::Refused(Refusal::Unsound);
+                return Err(Refusal::Unsound);
             }
             advance(state, &told, results, n, q, heading.time);
-            Answer::Accepted
+            Ok(())
         }
     }
 }
 
 // A step taken in place, without the test for 29: on the words of a sound monitor it leaves those of the monitor after the step, and the
 // results in the first slots. Words of another size, or with more entries or imports than there are slots, are not touched.
-pub fn take(state: &mut [u64], s: &[u8], results: &mut [u64]) -> Answer
+pub fn take(state: &mut [u64], s: &[u8], results: &mut [u64]) -> Result<(), Refusal>
     ensures { Took s.now result state.old results.old state.new results.new }
 {
     if state.len() != 452 {
-        return Answer::Refused(Refusal::Unsound);
+        return Err(Refusal::Unsound);
     }
     if results.len() != 128 {
-        return Answer::Refused(Refusal::Unsound);
+        return Err(Refusal::Unsound);
     }
     let n = state[0];
     let q = state[1];
     let crowded = 128 < n;
     if crowded {
-        return Answer::Refused(Refusal::Unsound);
+        return Err(Refusal::Unsound);
     }
     if 48 < q {
-        return Answer::Refused(Refusal::Unsound);
+        return Err(Refusal::Unsound);
     }
     heard(state, s, results, n as usize, q as usize)
 }

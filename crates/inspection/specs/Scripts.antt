@@ -1,10 +1,9 @@
 -- What is shown of a script that was read, and of one that was refused.
 use mathlib.Core.List.{List, ◌++◌}
-use Rattle.std.specs.Prelude.{◌≡◌, refl, ℕ, ◌≤◌}
+use Rattle.std.specs.Prelude.{◌≡◌, refl, ℕ, ◌≤◌, Ok, Err}
 use Rattle.std.proofs.Math.Path.{sym, subst}
 use Rattle.std.proofs.Common.{◌∙◌, ap, arith}
 use Rattle.refusals.specs.declared.Refusal.{Refusal}
-use Rattle.refusals.specs.declared.Answer.{Answer}
 use Rattle.refusals.specs.Accepting.{not_accepted}
 use Rattle.bits.specs.Reading.{Got, got, refused}
 use Rattle.table.specs.declared.Table.{Table}
@@ -17,13 +16,13 @@ use Rattle.lines.specs.Laying.{Lays, lays_then}
 use Rattle.inspection.specs.Inspected.{rules_to, lines_of, inspected}
 
 -- what is shown where the reader answers that the script is accepted
-accepted_lines : (s : List ℕ) (m : Got Table) → (script_reply m).answer ≡ Answer.Accepted
+accepted_lines : (s : List ℕ) (m : Got Table) → (script_reply m).answer ≡ Ok tt
     → lines_of s m ≡ script_line (script_reply m).table.n ++ rules_to s (script_reply m).table (script_reply m).table.n
 accepted_lines s (got t end) good = refl
 accepted_lines s (refused r) good = not_accepted r good
 
 -- and where it answers that it is refused
-refused_lines : (s : List ℕ) (m : Got Table) (r : Refusal) → (script_reply m).answer ≡ Answer.Refused r → lines_of s m ≡ script_refused_line r
+refused_lines : (s : List ℕ) (m : Got Table) (r : Refusal) → (script_reply m).answer ≡ Err r → lines_of s m ≡ script_refused_line r
 refused_lines s (got t end) r bad = not_accepted r (sym bad)
 refused_lines s (refused f) r bad = ap script_refused_line (cc bad)
 
@@ -39,7 +38,7 @@ read_few s is = subst (λ (x : Script). x.table.n ≤ limits.entries) (sym is) (
 
 module _ {dst mid after : List ℕ} {at next : ℕ} {read : Script} (s : List ℕ) where
   -- an accepted script's lines: the first one, and those of the rules
-  pub lays_accepted : read ≡ read_script s → read.answer ≡ Answer.Accepted → Lays dst 0 (script_line read.table.n) mid at
+  pub lays_accepted : read ≡ read_script s → read.answer ≡ Ok tt → Lays dst 0 (script_line read.table.n) mid at
       → Lays mid at (rules_to s read.table read.table.n) after next → Lays dst 0 (inspected s) after next
   unfolding read_script inspected
   lays_accepted is good first rules =
@@ -49,7 +48,7 @@ module _ {dst mid after : List ℕ} {at next : ℕ} {read : Script} (s : List �
       (lays_then first rules)
 
 -- a refused script's line
-pub lays_refused : {dst after : List ℕ} {next : ℕ} {read : Script} {r : Refusal} (s : List ℕ) → read ≡ read_script s → read.answer ≡ Answer.Refused r
+pub lays_refused : {dst after : List ℕ} {next : ℕ} {read : Script} {r : Refusal} (s : List ℕ) → read ≡ read_script s → read.answer ≡ Err r
     → Lays dst 0 (script_refused_line r) after next → Lays dst 0 (inspected s) after next
 unfolding read_script inspected
 lays_refused {dst} {after} {next} {r = r} s is bad laid =

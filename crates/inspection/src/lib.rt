@@ -9,7 +9,6 @@ ghost use Rattle.lines.specs.Laying.{Lays};
 ghost use Rattle.inspection.specs.Inspected.{rules_to, inspected};
 ghost use Rattle.inspection.specs.Rules.{lines_at};
 
-use refusals::Answer;
 use rule::rule_lines;
 use table::Table;
 
@@ -48,11 +47,11 @@ pub fn lines(script: &[u8], out: &mut [u8]) -> usize
     let read = reader::read(script);
     let answer = read.answer;
     match answer {
-        Answer::Accepted => {
+        Ok(()) => {
             let t = read.table;
             let at = lines::put_script(out, 0, t.n);
             rules(script, t, out, at)
         }
-        Answer::Refused(r) => lines::put_script_refused(out, 0, r),
+        Err(r) => lines::put_script_refused(out, 0, r),
     }
 }

@@ -1,10 +1,10 @@
 -- What a step answers to a monitor that knows the history.
 use Rattle.std.specs.Prelude.{List, ◌∷◌, ◌++◌, ◌≡◌, refl, ℕ, suc, ◌-◌, length, replicate}
-use Rattle.std.proofs.Common.{◌∙◌, ap, subst}
+use Rattle.std.proofs.Common.{◌∙◌, ap, subst, Ok}
 use Rattle.std.proofs.Math.ListN.{get_or-map}
 use Rattle.values.specs.declared.Outcome.{Outcome}
 use Rattle.values.specs.declared.Slot.{Slot}
-use Rattle.refusals.specs.declared.Answer.{Answer}
+use Rattle.refusals.specs.Answers.{Answer}
 use Rattle.bits.specs.Filled.{get_d_padded}
 use Rattle.bits.specs.Reading.{Got, got, refused, answered}
 use Rattle.table.specs.declared.Table.{Table}
@@ -25,7 +25,7 @@ use Rattle.knowing.proofs.Staying.{recall_sound}
 
 -- the reply to a step, or to a refused one, by a monitor that knows history h
 abbrev pub reply_for : Table → History → Got Step → Stepped
-reply_for t h (got s end) = record { answer = Answer.Accepted; monitor = recall_of t (s ∷ h); results = slots_of (results_of t (s ∷ h)) }
+reply_for t h (got s end) = record { answer = Ok tt; monitor = recall_of t (s ∷ h); results = slots_of (results_of t (s ∷ h)) }
 reply_for t h (refused r) = refused_step r (recall_of t h)
 
 -- it answers as the definition does
@@ -58,7 +58,7 @@ slot_result t h k =
     ap (λ (r : Slot). r.outcome) (get_or-map slot (row ++ none) k Outcome.Nothing) ∙ get_d_padded row (limits.slots - length row) k Outcome.Nothing
 
 -- a step that is offered to a monitor that knows the history of the strings before it
-pub step_answers : (t : Table) → Shaped t → table_fault t ≡ Answer.Accepted → (before : List (List ℕ)) (bytes : List ℕ)
+pub step_answers : (t : Table) → Shaped t → table_fault t ≡ Ok tt → (before : List (List ℕ)) (bytes : List ℕ)
     → step_of (recall_of t (history_of t before)) bytes ≡ reply_for t (history_of t before) (offered t (history_of t before) bytes)
 unfolding step_of taken_by recall_of offered history_of
 step_answers t shaped good before bytes =

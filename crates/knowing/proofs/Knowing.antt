@@ -1,13 +1,13 @@
 -- The monitor that is left is the one that knows the whole history: at the start, and after every accepted step.
 use Rattle.std.specs.Prelude.{[], ◌∷◌, ◌++◌, ◌≡◌, refl, ℕ, suc, ◌-◌, ◌≤◌, length, replicate}
-use Rattle.std.proofs.Common.{sym, ◌∙◌, ap, arith, length-append}
+use Rattle.std.proofs.Common.{sym, ◌∙◌, ap, arith, length-append, Ok}
 use Rattle.std.proofs.lemmas.List.{length-replicate, length-map}
 use Rattle.std.proofs.Math.ListN.{get_or-map}
 use Rattle.values.specs.declared.Truth.{Truth}
 use Rattle.values.specs.declared.Number.{Number}
 use Rattle.values.specs.declared.Outcome.{Outcome}
 use Rattle.values.specs.declared.Slot.{Slot}
-use Rattle.refusals.specs.declared.Answer.{Answer}
+use Rattle.refusals.specs.Answers.{Answer}
 use Rattle.bits.specs.Bits.{list_to}
 use Rattle.bits.specs.Reading.{got}
 use Rattle.table.specs.declared.Table.{Table}
@@ -42,10 +42,10 @@ fresh_recalls t shaped =
     λ i. record { table = t; last = 0; reported = reported i; held = held i; cells = cells i }
 
 -- a start leaves the monitor that knows no step
-pub start_recalls : (t : Table) → Shaped t → table_fault t ≡ Answer.Accepted → start_on t ≡ record { answer = Answer.Accepted; monitor = recall_of t [] }
+pub start_recalls : (t : Table) → Shaped t → table_fault t ≡ Ok tt → start_on t ≡ record { answer = Ok tt; monitor = recall_of t [] }
 unfolding start_on unsound_table
 start_recalls t shaped good =
-    ap (λ (a : Answer). start_reply (as_unsound a) t) good ∙ ap (λ (m : Monitor). record { answer = Answer.Accepted; monitor = m }) (fresh_recalls t shaped)
+    ap (λ (a : Answer). start_reply (as_unsound a) t) good ∙ ap (λ (m : Monitor). record { answer = Ok tt; monitor = m }) (fresh_recalls t shaped)
 
 -- "slots past n hold 'no result'"
 results_padded : (row : Row) → length row ≤ limits.slots
@@ -60,9 +60,9 @@ results_padded row fits =
     )
 
 -- an accepted step leaves the monitor that knows it too, and hands back what the history says
-pub step_recalls : (t : Table) → Shaped t → table_fault t ≡ Answer.Accepted → (h : History) (s : Step) (end : ℕ) → HistoryFits (s ∷ h)
+pub step_recalls : (t : Table) → Shaped t → table_fault t ≡ Ok tt → (h : History) (s : Step) (end : ℕ) → HistoryFits (s ∷ h)
     → advanced (recall_of t h) (taken_of (recall_of t h).reported (got s end))
-    ≡ record { answer = Answer.Accepted; monitor = recall_of t (s ∷ h); results = slots_of (results_of t (s ∷ h)) }
+    ≡ record { answer = Ok tt; monitor = recall_of t (s ∷ h); results = slots_of (results_of t (s ∷ h)) }
 unfolding advanced monitor_after recall_of walk_of moments_by held_before held_at results_of
 step_recalls t shaped good h s end fits =
     let sound = sound_table t good in
@@ -73,10 +73,10 @@ step_recalls t shaped good h s end fits =
     let reported = reported_next t h s in
     let cells = cells_all t sound (moments_by judge t (s ∷ h)) past in
     let results = results_padded row (omega (arith, row_length judge t past s t.n, sound.within.entries)) in
-    ap (λ (w : Walk). record { answer = Answer.Accepted; monitor = monitor_after (recall_of t h) taken w; results = w.results }) walk
+    ap (λ (w : Walk). record { answer = Ok tt; monitor = monitor_after (recall_of t h) taken w; results = w.results }) walk
     ∙ (λ i.
     record {
-      answer = Answer.Accepted;
+      answer = Ok tt;
       monitor = record { table = t; last = suc s.time; reported = reported i; held = (recall_of t (s ∷ h)).held; cells = cells i };
       results = results i;
     })

@@ -1,11 +1,10 @@
 -- "Neither falls under 29": what a history in range leaves of a sound table is sound.
 use Rattle.std.specs.Prelude.{Bool, true, false, cond, List, [], ◌∷◌, ◌≡◌, ℕ, ◌<◌, ◌≤◌, ◌^◌}
-use Rattle.std.proofs.Common.{◌∙◌, arith, le-leb}
+use Rattle.std.proofs.Common.{◌∙◌, arith, le-leb, Ok}
 use Rattle.std.proofs.Math.Path.{ap}
 use Rattle.values.specs.Truths.{is_true, is_false}
 use Rattle.values.specs.Numbers.{fits_n}
 use Rattle.values.specs.Outcomes.{event_in}
-use Rattle.refusals.specs.declared.Answer.{Answer}
 use Rattle.bits.specs.Lists.{get_d_list}
 use Rattle.table.specs.declared.VariableSlot.{VariableSlot}
 use Rattle.table.specs.declared.Table.{Table}
@@ -71,7 +70,7 @@ module _ (t : Table) (shape : Shaped t) (sound : Sound t) (h : History) (fits : 
       (left_kept (memory_of e) (places_of e).first (places_of e).second past (moments_fit t shape sound h fits))
 
 -- "Neither falls under 29": the monitor that knows a history in range, of a table without fault
-pub recall_sound : (t : Table) → Shaped t → table_fault t ≡ Answer.Accepted → (h : History) → HistoryFits h → unsound (recall_of t h) ≡ Answer.Accepted
+pub recall_sound : (t : Table) → Shaped t → table_fault t ≡ Ok tt → (h : History) → HistoryFits h → unsound (recall_of t h) ≡ Ok tt
 unfolding recall_of
 recall_sound t shape good h fits =
     let sound = sound_table t good in

@@ -1,12 +1,11 @@
 -- What the cells hold after one more step.
-use Rattle.std.specs.Prelude.{Bool, true, false, cond, List, [], ◌∷◌, ◌≡◌, refl, ℕ, suc, ◌<◌, ◌≤◌, ltb, set}
+use Rattle.std.specs.Prelude.{Bool, true, false, cond, List, [], ◌∷◌, ◌≡◌, refl, ℕ, suc, ◌<◌, ◌≤◌, ltb, set, Ok}
 use Rattle.std.proofs.Common.{sym, ◌∙◌, ap, arith, lt-ltb, le-ltb}
 use Rattle.std.proofs.Math.Decide.{dec_lt}
 use Rattle.replies.specs.Plain.{never, both_true}
 use Rattle.values.specs.declared.Outcome.{Outcome}
 use Rattle.values.specs.Truths.{is_true, is_false}
 use Rattle.values.specs.Outcomes.{condition_in, event_in}
-use Rattle.refusals.specs.declared.Answer.{Answer}
 use Rattle.bits.specs.Bits.{list_to}
 use Rattle.table.specs.declared.Entry.{Entry}
 use Rattle.table.specs.declared.Entry.TheVariants.{Pair, Start, End, Time}
@@ -47,7 +46,7 @@ open_next m past a b =
     ∙ sym (pair_next m past a b)
 
 -- what an entry remembers of its operands' results is what the whole step leaves: its operands stand earlier
-pub left_next : (t : Table) (k : ℕ) (e : Entry) → Carries e → operands_fault t k (operands_of e) ≡ Answer.Accepted
+pub left_next : (t : Table) (k : ℕ) (e : Entry) → Carries e → operands_fault t k (operands_of e) ≡ Ok tt
     → (row : Row) (m : Moment) (past : List Moment) → ((j : ℕ) → j < k → row_at m.row j ≡ row_at row j)
     → remember (memory_of e) (row_at row (places_of e).first) (row_at row (places_of e).second) (suc m.step.time) (left_by e past) ≡ left_by e (m ∷ past)
 unfolding left_by memory_of operands_of places_of latest_kept

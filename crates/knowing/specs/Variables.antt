@@ -1,12 +1,11 @@
 -- What the variables hold after one more entry.
-use Rattle.std.specs.Prelude.{Bool, true, false, cond, ◌&&◌, List, ◌≡◌, refl, ℕ, zero, suc, ◌<◌, ◌≤◌, eqb}
+use Rattle.std.specs.Prelude.{Bool, true, false, cond, ◌&&◌, List, ◌≡◌, refl, ℕ, zero, suc, ◌<◌, ◌≤◌, eqb, Ok}
 use Rattle.std.proofs.Math.Option.{Option, none, some, get_or}
 use Rattle.std.proofs.Math.Path.{sym, ap, fun_ext}
 use Rattle.std.proofs.Common.{◌∙◌, arith, eq-eqb, ne_eqb}
 use Rattle.values.specs.declared.Number.{Number}
 use Rattle.values.specs.declared.Outcome.{Outcome}
 use Rattle.values.specs.Outcomes.{number_in, is_done}
-use Rattle.refusals.specs.declared.Answer.{Answer}
 use Rattle.bits.specs.Bits.{list_to}
 use Rattle.table.specs.declared.Entry.{Entry}
 use Rattle.table.specs.declared.Entry.TheVariants.{Update}
@@ -25,7 +24,7 @@ use Rattle.bits.specs.Filled.{list_set}
 use Rattle.knowing.specs.Carrying.{Carries, a_pair, a_start, an_end, a_time, an_update_lem, other, carries}
 
 -- an update gives the same number by two rows that agree before it: its number's entry stands earlier
-given_same : (t : Table) (k : ℕ) (e : Entry) → Carries e → operands_fault t k (operands_of e) ≡ Answer.Accepted
+given_same : (t : Table) (k : ℕ) (e : Entry) → Carries e → operands_fault t k (operands_of e) ≡ Ok tt
     → (r₁ r₂ : Row) → ((j : ℕ) → j < k → row_at r₁ j ≡ row_at r₂ j) → (o : Outcome) (x : ℕ) → given_by (update_of e) o r₁ x ≡ given_by (update_of e) o r₂ x
 unfolding update_of operands_of
 given_same t k e (a_pair a b) good r₁ r₂ agree o x = refl

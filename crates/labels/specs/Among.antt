@@ -1,7 +1,6 @@
 -- The labels up to the end of the bytes: whether they are as they should be, and where a wanted one stands.
-use Rattle.std.specs.Prelude.{Bool, cond, List, ℕ, ltb}
+use Rattle.std.specs.Prelude.{Bool, cond, List, ℕ, ltb, Ok}
 use Rattle.refusals.specs.declared.Refusal.{Refusal}
-use Rattle.refusals.specs.declared.Answer.{Answer}
 use Rattle.bits.specs.Reading.{Got, got, refused, Reading, ◌>>=◌, ended}
 use Rattle.script.specs.declared.Span.{Span}
 use Rattle.script.specs.declared.Label.{Label}
@@ -19,7 +18,7 @@ span_of (refused r) = nowhere
 
 -- the answer of all the labels, with the place of the wanted one among them
 abbrev pub among_reply : Bool → Got Span → Got ℕ → Label
-among_reply among one (got count end) = record { answer = Answer.Accepted; span = cond among (span_of one) nowhere }
+among_reply among one (got count end) = record { answer = Ok tt; span = cond among (span_of one) nowhere }
 among_reply among one (refused r) = no_label r
 
 -- "For each alarm and property entry, in order: [a label]. Nothing follows."

@@ -1,5 +1,5 @@
 -- Laws of one label: what each fault leads to, and where the text and the next label stand.
-use Rattle.std.specs.Prelude.{Bool, true, false, List, ◌≡◌, refl, ℕ, ◌+◌, ◌*◌, ◌/◌, ◌<◌, ◌≤◌, leb, get_or, take, drop}
+use Rattle.std.specs.Prelude.{Bool, true, false, List, ◌≡◌, refl, ℕ, ◌+◌, ◌*◌, ◌/◌, ◌<◌, ◌≤◌, leb, get_or, take, drop, Ok, Err, Some, None, Option}
 use Rattle.std.proofs.Math.Bool.{and-false}
 use Rattle.std.proofs.Math.Logic.{by_cases}
 use Rattle.std.proofs.Common.{◌∙◌, ap, add-one, le-leb, drop-cons}
@@ -8,7 +8,6 @@ use native.Mathlib.Omega.{arith}
 use Rattle.std.proofs.lemmas.Bool.{lt-leb}
 use Rattle.std.proofs.Math.ListN.{length}
 use Rattle.refusals.specs.declared.Refusal.{Refusal}
-use Rattle.bits.specs.declared.Field.{Field}
 use Rattle.bits.specs.Bits.{field_at}
 use Rattle.bits.specs.Fields.{there_ends}
 use Rattle.bits.specs.Reading.{Got, got, refused}
@@ -33,21 +32,21 @@ unfolding printable
 printable_high s i h high = rw (drop-cons s i 0 h, lt-leb (get_or s i 0) 0x7E high, and-false (leb 0x20 (get_or s i 0)))
 
 -- the length isn't there
-pub label_cut : (s : List ℕ) (at : ℕ) → field_at s at 8 ≡ Field.Missing → label s at ≡ refused Refusal.Cut
+pub label_cut : (s : List ℕ) (at : ℕ) → field_at s at 8 ≡ None → label s at ≡ refused Refusal.Cut
 unfolding label
 label_cut s at e = rw e
 
 -- a length that is there is one of the bytes
-pub length_within : (s : List ℕ) (from size : ℕ) → field_at s (8 * from) 8 ≡ Field.There size → from < length s
+pub length_within : (s : List ℕ) (from size : ℕ) → field_at s (8 * from) 8 ≡ Some size → from < length s
 length_within s from size e = omega (arith, there_ends s (8 * from) 8 size e)
 
 -- "label over 32"
-pub label_long : (s : List ℕ) (at size : ℕ) → field_at s at 8 ≡ Field.There size → limits.label < size → label s at ≡ refused Refusal.Label
+pub label_long : (s : List ℕ) (at size : ℕ) → field_at s at 8 ≡ Some size → limits.label < size → label s at ≡ refused Refusal.Label
 unfolding label
 label_long s at size e h = rw (e, lt-leb size limits.label h)
 
 -- the text stands after the length
-pub label_text_lem : (s : List ℕ) (from size : ℕ) → field_at s (8 * from) 8 ≡ Field.There size → size ≤ limits.label
+pub label_text_lem : (s : List ℕ) (from size : ℕ) → field_at s (8 * from) 8 ≡ Some size → size ≤ limits.label
     → label s (8 * from) ≡ text size s (8 * (from + 1))
 unfolding label
 label_text_lem s from size e h =
@@ -77,8 +76,8 @@ module _ (s : List ℕ) (first size : ℕ) where
 
 -- what reading one label finds
 abbrev pub found_in : Got Span → Found
-found_in (got span next) = Found.At span
-found_in (refused r) = Found.Refused r
+found_in (got span next) = Ok span
+found_in (refused r) = Err r
 
 -- a label's text ends within the bytes, and the next label begins there
 abbrev pub EndsIn : List ℕ → Got Span → Type 0
@@ -93,9 +92,9 @@ text_ends s first size false e =
     by_cases (dec_le (first + size) (length s)) (λ room. rw (text_fault s first size room e) tt)
     (λ short. rw (text_cut s first size (omega arith)) tt)
 
-label_ends_by : (s : List ℕ) (from : ℕ) (f : Field) → field_at s (8 * from) 8 ≡ f → EndsIn s (label s (8 * from))
-label_ends_by s from Field.Missing e = rw (label_cut s (8 * from) e) tt
-label_ends_by s from (Field.There size) e =
+label_ends_by : (s : List ℕ) (from : ℕ) (f : Option ℕ) → field_at s (8 * from) 8 ≡ f → EndsIn s (label s (8 * from))
+label_ends_by s from None e = rw (label_cut s (8 * from) e) tt
+label_ends_by s from (Some size) e =
     by_cases (dec_le size limits.label) (λ fits. rw (label_text_lem s from size e fits) (text_ends s (from + 1) size _ refl))
     (λ long. rw (label_long s (8 * from) size e (omega arith)) tt)
 
@@ -103,11 +102,11 @@ label_ends_by s from (Field.There size) e =
 label_ends : (s : List ℕ) (from : ℕ) → EndsIn s (label s (8 * from))
 label_ends s from = label_ends_by s from _ refl
 
-refused_found : (g : Got Span) (r : Refusal) → found_in g ≡ Found.Refused r → g ≡ refused r
+refused_found : (g : Got Span) (r : Refusal) → found_in g ≡ Err r → g ≡ refused r
 refused_found (got span next) r e = let z : ◌≡◌ {A = ℕ} 0 1 = cc in absurd (omega arith)
 refused_found (refused q) r e = cc
 
-text_found_in : (s : List ℕ) (g : Got Span) (span : Span) → EndsIn s g → found_in g ≡ Found.At span
+text_found_in : (s : List ℕ) (g : Got Span) (span : Span) → EndsIn s g → found_in g ≡ Ok span
     → (g ≡ got span (8 * (span.from + span.size))) × (span.from + span.size ≤ length s)
 text_found_in s (got here next) span ends e =
     let same : here ≡ span = cc in
@@ -115,10 +114,10 @@ text_found_in s (got here next) span ends e =
 text_found_in s (refused r) span ends e = let z : ◌≡◌ {A = ℕ} 0 1 = cc in absurd (omega arith)
 
 -- the refusal that was found
-pub found_refused : (s : List ℕ) (from : ℕ) (r : Refusal) → found_in (label s (8 * from)) ≡ Found.Refused r → label s (8 * from) ≡ refused r
+pub found_refused : (s : List ℕ) (from : ℕ) (r : Refusal) → found_in (label s (8 * from)) ≡ Err r → label s (8 * from) ≡ refused r
 found_refused s from r e = refused_found (label s (8 * from)) r e
 
 -- the text that was found
-pub found_at : (s : List ℕ) (from : ℕ) (span : Span) → found_in (label s (8 * from)) ≡ Found.At span
+pub found_at : (s : List ℕ) (from : ℕ) (span : Span) → found_in (label s (8 * from)) ≡ Ok span
     → (label s (8 * from) ≡ got span (8 * (span.from + span.size))) × (span.from + span.size ≤ length s)
 found_at s from span e = text_found_in s (label s (8 * from)) span (label_ends s from) e

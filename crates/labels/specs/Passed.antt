@@ -1,12 +1,11 @@
 -- Labels passed one after another: what is known once some of them are read, and the answer at the end.
-use Rattle.std.specs.Prelude.{List, ◌≡◌, refl, ℕ, suc, ◌+◌, ◌-◌, ◌*◌, ◌<◌, ◌≤◌, length}
+use Rattle.std.specs.Prelude.{List, ◌≡◌, refl, ℕ, suc, ◌+◌, ◌-◌, ◌*◌, ◌<◌, ◌≤◌, length, Ok}
 use Rattle.std.proofs.Math.Logic.{by_cases}
 use Rattle.std.proofs.Common.{sym, ◌∙◌, ap, arith}
 use Rattle.std.proofs.Math.Decide.{dec_lt}
 use Rattle.std.proofs.Math.Nat.{sub-zero}
 use borrow.Author.Tests.{lt-ltb, le-ltb, eq-eqb, ne_eqb}
 use Rattle.refusals.specs.declared.Refusal.{Refusal}
-use Rattle.refusals.specs.declared.Answer.{Answer}
 use Rattle.bits.specs.Reading.{got, refused}
 use Rattle.script.specs.declared.Span.{Span}
 use Rattle.script.specs.declared.Label.{Label}
@@ -26,7 +25,7 @@ pub record Passed (s : List ℕ) (from count wanted at : ℕ) (span : Span) (j :
 
 -- the answer of labels that are as they should be
 abbrev pub accepted : Span → Label
-accepted span = record { answer = Answer.Accepted; span = span }
+accepted span = record { answer = Ok tt; span = span }
 
 -- a label, and then the others
 labels_next : (s : List ℕ) (at n k next : ℕ) (span : Span) → n ≡ suc k → label s at ≡ got span next → labels_to_end n s at ≡ labels_to_end k s next

@@ -9,9 +9,8 @@ ghost use Rattle.script.specs.Reader.{no_label};
 ghost use Rattle.labels.specs.Among.{label_among};
 ghost use Rattle.labels.specs.Laws.{found_in};
 
-use bits::Field;
 pub use counting::{before, labelled};
-use refusals::{Answer, Refusal};
+use refusals::Refusal;
 use script::{Label, Span};
 
 // One label: where its text stands, or the refusal.
@@ -41,26 +40,26 @@ fn all_printable(text: &[u8]) -> bool
 }
 
 // The label whose length is byte `from`.
-fn one(s: &[u8], from: usize) -> Found
+fn one(s: &[u8], from: usize) -> Result<Span, Refusal>
     ensures { result ≡ found_in (label s.now (8 * from)) }
 {
-    let Field::There(size) = bits::byte_at(s, from) else {
-        return Found::Refused(Refusal::Cut);
+    let Some(size) = bits::byte_at(s, from) else {
+        return Err(Refusal::Cut);
     };
     let too_long = 32 < size;
     if too_long {
-        return Found::Refused(Refusal::Label);
+        return Err(Refusal::Label);
     }
     let size = size as usize;
     let first = from + 1;
     let cut = s.len() - first < size;
     if cut {
-        return Found::Refused(Refusal::Cut);
+        return Err(Refusal::Cut);
     }
     if !all_printable(&s[first..first + size]) {
-        return Found::Refused(Refusal::Label);
+        return Err(Refusal::Label);
     }
-    Found::At(Span {
+    Ok(Span {
         from: first,
         size: size,
     })
@@ -71,7 +70,7 @@ fn no_label(refusal: Refusal) -> Label
     ensures { result ≡ no_label refusal }
 {
     Label {
-        answer: Answer::Refused(refusal),
+        answer: Err(refusal),
         span: Span { from: 0, size: 0 },
     }
 }
@@ -85,10 +84,10 @@ pub fn read(s: &[u8], from: usize, count: usize, wanted: usize) -> Label
     let mut j: usize = 0;
     while j < count {
         match one(s, at) {
-            Found::Refused(refusal) => {
+            Err(refusal) => {
                 return no_label(refusal);
             }
-            Found::At(text) => {
+            Ok(text) => {
                 at = text.from + text.size;
                 if j == wanted {
                     span = text;
@@ -101,7 +100,7 @@ pub fn read(s: &[u8], from: usize, count: usize, wanted: usize) -> Label
         return no_label(Refusal::LeftOver);
     }
     Label {
-        answer: Answer::Accepted,
+        answer: Ok(()),
         span: span,
     }
 }

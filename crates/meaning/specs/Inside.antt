@@ -1,9 +1,8 @@
 -- In a sound table every entry looks at earlier entries, and inside the slots.
-use Rattle.std.specs.Prelude.{List, [], ◌∷◌, ◌≡◌, ℕ, zero, suc, ◌<◌, ◌≤◌, ltb, length, get_or}
+use Rattle.std.specs.Prelude.{List, [], ◌∷◌, ◌≡◌, ℕ, zero, suc, ◌<◌, ◌≤◌, ltb, length, get_or, Ok}
 use Rattle.std.proofs.Math.Decide.{dec_lt}
 use Rattle.std.proofs.Common.{not-suc-le-zero, arith, ltb-true}
 use Rattle.std.proofs.Math.ListN.{get_or-eq_default}
-use Rattle.refusals.specs.declared.Answer.{Answer}
 use Rattle.refusals.specs.declared.Refusal.{Refusal}
 use Rattle.refusals.specs.Numbering.{unless}
 use Rattle.refusals.specs.Accepting.{unless_accepted, accepted_first, accepted_second}
@@ -46,11 +45,11 @@ pub record Named (t : Table) (k : ℕ) (operands : List Operand) : Type 0 where
   pub variables : AllBelow t.v (variables_in operands)
 
 -- what is not refused with 7 is below its bound
-not_seven : (n bound : ℕ) → unless (ltb n bound) Refusal.Operand ≡ Answer.Accepted → n < bound
+not_seven : (n bound : ℕ) → unless (ltb n bound) Refusal.Operand ≡ Ok tt → n < bound
 not_seven n bound good = ltb-true n bound (unless_accepted (ltb n bound) Refusal.Operand good)
 
 -- one more operand that is accepted
-one_named : (t : Table) (k : ℕ) (o : Operand) (rest : List Operand) → operand_fault t k o ≡ Answer.Accepted → Named t k rest → Named t k (o ∷ rest)
+one_named : (t : Table) (k : ℕ) (o : Operand) (rest : List Operand) → operand_fault t k o ≡ Ok tt → Named t k rest → Named t k (o ∷ rest)
 unfolding operand_fault
 one_named t k (entry s a) rest good later =
     record {
@@ -73,7 +72,7 @@ one_named t k (variable x) rest good later =
 one_named t k (constant z) rest good later = record { entries = later.entries; imports = later.imports; variables = later.variables }
 
 -- "7: operand not an earlier entry, import ≥ q, or variable ≥ v": no accepted operand is such a one
-pub all_named : (t : Table) (k : ℕ) (operands : List Operand) → operands_fault t k operands ≡ Answer.Accepted → Named t k operands
+pub all_named : (t : Table) (k : ℕ) (operands : List Operand) → operands_fault t k operands ≡ Ok tt → Named t k operands
 unfolding operands_fault
 all_named t k [] good = record { entries = none_below k; imports = none_below t.q; variables = none_below t.v }
 all_named t k (o ∷ rest) good =
@@ -81,7 +80,7 @@ all_named t k (o ∷ rest) good =
     (all_named t k rest (accepted_second (operand_fault t k o) (operands_fault t k rest) good))
 
 -- "Operand entries stand earlier in the script."
-pub entries_earlier : (t : Table) (k : ℕ) (operands : List Operand) → operands_fault t k operands ≡ Answer.Accepted
+pub entries_earlier : (t : Table) (k : ℕ) (operands : List Operand) → operands_fault t k operands ≡ Ok tt
     → (i : ℕ) → i < length (entries_in operands) → get_or (entries_in operands) i 0 < k
 entries_earlier t k operands good = (all_named t k operands good).entries.each
 
@@ -94,7 +93,7 @@ a_slot bound slots numbers below fits some i =
     ]
 
 -- where an entry of a sound table looks, there is a slot
-pub places_inside : (t : Table) → Within t → (k : ℕ) → k ≤ limits.slots → (e : Entry) → operands_fault t k (operands_of e) ≡ Answer.Accepted
+pub places_inside : (t : Table) → Within t → (k : ℕ) → k ≤ limits.slots → (e : Entry) → operands_fault t k (operands_of e) ≡ Ok tt
     → Inside (places_of e)
 unfolding places_of
 places_inside t within k slots e good =

@@ -1,11 +1,10 @@
 -- Every number that an entry of a sound table gives is in range, where what it looks at is.
-use Rattle.std.specs.Prelude.{Bool, true, false, cond, ◌≡◌, refl, ℕ, ℤ, ◌+ℤ◌, ◌-ℤ◌}
+use Rattle.std.specs.Prelude.{Bool, true, false, cond, ◌≡◌, refl, ℕ, ℤ, ◌+ℤ◌, ◌-ℤ◌, Ok}
 use Rattle.values.specs.declared.Number.{Number}
 use Rattle.values.specs.declared.Outcome.{Outcome}
 use Rattle.values.specs.Numbers.{in_range, fits_n, ranged, sum_n, difference_n}
 use Rattle.values.specs.Outcomes.{number_in}
 use Rattle.refusals.specs.declared.Refusal.{Refusal}
-use Rattle.refusals.specs.declared.Answer.{Answer}
 use Rattle.refusals.specs.Numbering.{unless}
 use Rattle.refusals.specs.Accepting.{unless_accepted, accepted_first}
 use Rattle.table.specs.declared.Entry.{Entry}
@@ -45,7 +44,7 @@ difference_fits (Number.Whole a) Number.Undefined = refl
 difference_fits (Number.Whole a) (Number.Whole b) = ranged_fits (a -ℤ b)
 
 -- a number that an entry of a sound table gives is in range, where what it looks at is
-pub meaning_fits : (t : Table) (k : ℕ) (e : Entry) → operands_fault t k (operands_of e) ≡ Answer.Accepted → (x y : Outcome) (g : Givens) → GivensFit g
+pub meaning_fits : (t : Table) (k : ℕ) (e : Entry) → operands_fault t k (operands_of e) ≡ Ok tt → (x y : Outcome) (g : Givens) → GivensFit g
     → fits_n (number_in (meaning e x y g)) ≡ true
 unfolding operands_of operands_fault operand_fault meaning
 meaning_fits t k (ImportedCondition i) good x y g fits = refl
@@ -63,7 +62,7 @@ meaning_fits t k (End a) good x y g fits = refl
 meaning_fits t k (Both a b) good x y g fits = refl
 meaning_fits t k (Either a b) good x y g fits = refl
 meaning_fits t k (When a b) good x y g fits = refl
-meaning_fits t k (Constant z) good x y g fits = unless_accepted (in_range z) Refusal.Range (accepted_first (unless (in_range z) Refusal.Range) Answer.Accepted good)
+meaning_fits t k (Constant z) good x y g fits = unless_accepted (in_range z) Refusal.Range (accepted_first (unless (in_range z) Refusal.Range) (Ok tt) good)
 meaning_fits t k (Variable v) good x y g fits = fits.held
 meaning_fits t k (Sum a b) good x y g fits = sum_fits (number_in x) (number_in y)
 meaning_fits t k (Difference a b) good x y g fits = difference_fits (number_in x) (number_in y)

@@ -1,9 +1,9 @@
 -- What a monitor keeps, when that is at fault, and the start.
-use Rattle.std.specs.Prelude.{ℕ, get_or, replicate}
+use Rattle.std.specs.Prelude.{ℕ, get_or, replicate, Ok, Err}
 use Rattle.values.specs.declared.Truth.{Truth}
 use Rattle.values.specs.declared.Number.{Number}
 use Rattle.refusals.specs.declared.Refusal.{Refusal}
-use Rattle.refusals.specs.declared.Answer.{Answer}
+use Rattle.refusals.specs.Answers.{Answer}
 use Rattle.refusals.specs.Numbering.{unless, and_then, first_fault}
 use Rattle.table.specs.declared.Table.{Table}
 use Rattle.table.specs.Limits.{limits}
@@ -49,8 +49,8 @@ fresh t =
 
 -- "A start on a table at fault gives 29 and the monitor of the empty table"
 abbrev pub start_reply : Answer → Table → Started
-start_reply Answer.Accepted t = record { answer = Answer.Accepted; monitor = fresh t }
-start_reply (Answer.Refused r) t = record { answer = Answer.Refused r; monitor = fresh empty_table }
+start_reply (Ok _) t = record { answer = Ok tt; monitor = fresh t }
+start_reply (Err r) t = record { answer = Err r; monitor = fresh empty_table }
 
 -- what a start answers: 29 or a monitor
 unfoldable pub start_on : Table → Started

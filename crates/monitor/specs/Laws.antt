@@ -1,10 +1,10 @@
 -- A monitor that is not at fault, in parts, and back.
-use Rattle.std.specs.Prelude.{Bool, true, ◌≡◌, refl, ℕ, ◌<◌}
+use Rattle.std.specs.Prelude.{Bool, true, ◌≡◌, refl, ℕ, ◌<◌, Ok, Err}
 use Rattle.std.proofs.Common.{sym, ◌∙◌}
 use Rattle.std.proofs.Math.Path.{ap}
 use Rattle.values.specs.Numbers.{fits_n}
 use Rattle.refusals.specs.declared.Refusal.{Refusal}
-use Rattle.refusals.specs.declared.Answer.{Answer}
+use Rattle.refusals.specs.Answers.{Answer}
 use Rattle.refusals.specs.Numbering.{unless, and_then, first_fault}
 use Rattle.refusals.specs.Accepting.{not_accepted, unless_accepted, accepted_first, accepted_second, none_at_fault, no_fault}
 use Rattle.table.specs.Limits.{limits}
@@ -22,18 +22,18 @@ pub record Kept (m : Monitor) : Type 0 where
   pub cells : (k : ℕ) → k < limits.slots → kept_fits (cell_at m k) ≡ true
 
 -- where 29 is not given there is no fault
-no_29 : (a : Answer) → as_unsound a ≡ Answer.Accepted → a ≡ Answer.Accepted
-no_29 Answer.Accepted good = refl
-no_29 (Answer.Refused r) good = not_accepted Refusal.Unsound good
+no_29 : (a : Answer) → as_unsound a ≡ Ok tt → a ≡ Ok tt
+no_29 (Ok _) good = refl
+no_29 (Err r) good = not_accepted Refusal.Unsound good
 
 module _ (m : Monitor) where
   -- the table of a monitor that is accepted is sound
-  pub sound_of : unsound m ≡ Answer.Accepted → Sound m.table
+  pub sound_of : unsound m ≡ Ok tt → Sound m.table
   unfolding unsound
   sound_of good = sound_table m.table (accepted_first (table_fault m.table) (kept_fault m) (no_29 _ good))
 
   -- and it keeps nothing out of range
-  pub kept_of : unsound m ≡ Answer.Accepted → Kept m
+  pub kept_of : unsound m ≡ Ok tt → Kept m
   unfolding unsound kept_fault
   kept_of good =
       let last = unless (kept_fits m.last) Refusal.Unsound in
@@ -50,7 +50,7 @@ module _ (m : Monitor) where
       }
 
   -- a monitor of a sound table that keeps nothing out of range is accepted
-  pub sound_monitor : Sound m.table → Kept m → unsound m ≡ Answer.Accepted
+  pub sound_monitor : Sound m.table → Kept m → unsound m ≡ Ok tt
   unfolding unsound kept_fault
   sound_monitor sound kept =
       rw (

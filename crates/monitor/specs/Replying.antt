@@ -1,9 +1,9 @@
 -- Laws of what a start and a step answer, from what their parts were found to be.
-use Rattle.std.specs.Prelude.{List, ◌≡◌, refl, ℕ, ◌<◌, ◌^◌}
+use Rattle.std.specs.Prelude.{List, ◌≡◌, refl, ℕ, ◌<◌, ◌^◌, Ok, Err}
 use Rattle.std.proofs.Math.Path.{sym, ap}
 use Rattle.std.proofs.Common.{◌∙◌, arith}
 use Rattle.refusals.specs.declared.Refusal.{Refusal}
-use Rattle.refusals.specs.declared.Answer.{Answer}
+use Rattle.refusals.specs.Answers.{Answer}
 use Rattle.bits.specs.Reading.{Got, got, refused}
 use Rattle.table.specs.declared.Table.{Table}
 use Rattle.table.specs.Tables.{empty_table}
@@ -21,23 +21,23 @@ use Rattle.monitor.specs.Stepping.{advanced, refused_step, step_reply, taken_by,
 
 module _ (t : Table) (found : Answer) (judged : found ≡ table_fault t) (m : Monitor) where
   -- "A start on any other table gives a monitor that holds that table and no accepted step yet"
-  pub start_sound : found ≡ Answer.Accepted → m ≡ fresh t → record { answer = Answer.Accepted; monitor = m } ≡ start_on t
+  pub start_sound : found ≡ Ok tt → m ≡ fresh t → record { answer = Ok tt; monitor = m } ≡ start_on t
   unfolding start_on unsound_table
   start_sound good is = rw (sym judged ∙ good, is)
 
   -- "A start on a table at fault gives 29 and the monitor of the empty table"
-  pub start_unsound : (r : Refusal) (empty : Table) → found ≡ Answer.Refused r → empty ≡ empty_table → m ≡ fresh empty
-      → record { answer = Answer.Refused Refusal.Unsound; monitor = m } ≡ start_on t
+  pub start_unsound : (r : Refusal) (empty : Table) → found ≡ Err r → empty ≡ empty_table → m ≡ fresh empty
+      → record { answer = Err Refusal.Unsound; monitor = m } ≡ start_on t
   unfolding start_on unsound_table
   start_unsound r empty bad none is = rw (sym judged ∙ bad, is, none)
 
 module _ (m : Monitor) (s : Taken) (reply : Stepped) where
   -- a step that was read is taken
-  pub reply_taken : s.answer ≡ Answer.Accepted → reply ≡ advanced m s → reply ≡ step_reply s.answer m s
+  pub reply_taken : s.answer ≡ Ok tt → reply ≡ advanced m s → reply ≡ step_reply s.answer m s
   reply_taken answered is = is ∙ sym (ap (λ (a : Answer). step_reply a m s) answered)
 
   -- "A refused step returns the monitor unchanged"
-  pub reply_refused : (r : Refusal) → s.answer ≡ Answer.Refused r → reply ≡ refused_step r m → reply ≡ step_reply s.answer m s
+  pub reply_refused : (r : Refusal) → s.answer ≡ Err r → reply ≡ refused_step r m → reply ≡ step_reply s.answer m s
   reply_refused r answered is = is ∙ sym (ap (λ (a : Answer). step_reply a m s) answered)
 
 -- the time that is taken is that of the step that was read, and 0 where none was
@@ -52,17 +52,17 @@ taken_time m bytes s read = rw read (time_taken m.reported (read_step m.table m.
 
 module _ (m : Monitor) (found : Answer) (judged : found ≡ unsound m) where
   -- a monitor that was found without fault has none
-  pub found_sound : found ≡ Answer.Accepted → unsound m ≡ Answer.Accepted
+  pub found_sound : found ≡ Ok tt → unsound m ≡ Ok tt
   found_sound good = sym judged ∙ good
 
   module _ (bytes : List ℕ) (reply : Stepped) where
     -- "29 before all else in a step"
-    pub step_unsound : (r : Refusal) → found ≡ Answer.Refused r → reply ≡ refused_step r m → reply ≡ step_of m bytes
+    pub step_unsound : (r : Refusal) → found ≡ Err r → reply ≡ refused_step r m → reply ≡ step_of m bytes
     unfolding step_of
     step_unsound r bad is = is ∙ sym (ap (λ (a : Answer). sound_step a m bytes) (sym judged ∙ bad))
 
     -- a monitor without fault answers by what was read
-    pub step_sound : (s : Taken) → found ≡ Answer.Accepted → s ≡ taken_by m bytes → reply ≡ step_reply s.answer m s → reply ≡ step_of m bytes
+    pub step_sound : (s : Taken) → found ≡ Ok tt → s ≡ taken_by m bytes → reply ≡ step_reply s.answer m s → reply ≡ step_of m bytes
     unfolding step_of
     step_sound s good read is =
         is ∙ ap (λ (taken : Taken). step_reply taken.answer m taken) read ∙ sym (ap (λ (a : Answer). sound_step a m bytes) (found_sound good))

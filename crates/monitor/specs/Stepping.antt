@@ -1,11 +1,11 @@
 -- One step of a monitor, from what it keeps.
-use Rattle.std.specs.Prelude.{Bool, cond, List, ℕ, zero, suc, pos, get_or, set, replicate}
+use Rattle.std.specs.Prelude.{Bool, cond, List, ℕ, zero, suc, pos, get_or, set, replicate, Ok, Err}
 use Rattle.values.specs.declared.Number.{Number}
 use Rattle.values.specs.declared.Outcome.{Outcome}
 use Rattle.values.specs.declared.Slot.{Slot}
 use Rattle.values.specs.Outcomes.{number_in, is_done}
 use Rattle.refusals.specs.declared.Refusal.{Refusal}
-use Rattle.refusals.specs.declared.Answer.{Answer}
+use Rattle.refusals.specs.Answers.{Answer}
 use Rattle.table.specs.declared.VariableSlot.{VariableSlot}
 use Rattle.table.specs.Limits.{limits}
 use Rattle.table.specs.Tables.{entry_at, number_at}
@@ -72,16 +72,16 @@ monitor_after m s w = record { table = m.table; last = suc s.time; reported = s.
 unfoldable pub advanced : Monitor → Taken → Stepped
 advanced m s =
     let w = walk_to m s m.table.n in
-    record { answer = Answer.Accepted; monitor = monitor_after m s w; results = w.results }
+    record { answer = Ok tt; monitor = monitor_after m s w; results = w.results }
 
 -- "A refused step returns the monitor unchanged and 128 times 'no result'."
 abbrev pub refused_step : Refusal → Monitor → Stepped
-refused_step r m = record { answer = Answer.Refused r; monitor = m; results = no_results }
+refused_step r m = record { answer = Err r; monitor = m; results = no_results }
 
 -- a step that was read is taken; one that was refused changes nothing
 abbrev pub step_reply : Answer → Monitor → Taken → Stepped
-step_reply Answer.Accepted m s = advanced m s
-step_reply (Answer.Refused r) m s = refused_step r m
+step_reply (Ok _) m s = advanced m s
+step_reply (Err r) m s = refused_step r m
 
 -- what is taken from the bytes of a step, by the table and by what is kept
 unfoldable pub taken_by : Monitor → List ℕ → Taken
@@ -89,8 +89,8 @@ taken_by m bytes = taken_of m.reported (read_step m.table m.last bytes 0)
 
 -- "29 before all else in a step"
 abbrev pub sound_step : Answer → Monitor → List ℕ → Stepped
-sound_step Answer.Accepted m bytes = step_reply (taken_by m bytes).answer m (taken_by m bytes)
-sound_step (Answer.Refused r) m bytes = refused_step r m
+sound_step (Ok _) m bytes = step_reply (taken_by m bytes).answer m (taken_by m bytes)
+sound_step (Err r) m bytes = refused_step r m
 
 -- what a step answers
 unfoldable pub step_of : Monitor → List ℕ → Stepped

@@ -1,11 +1,10 @@
 -- The walk over the entries, as the code takes it: where an entry looks there is a slot, one entry more, and the end.
-use Rattle.std.specs.Prelude.{Bool, true, false, List, ◌≡◌, ℕ, suc, ◌+◌, ◌<◌, ◌≤◌, pos, set}
+use Rattle.std.specs.Prelude.{Bool, true, false, List, ◌≡◌, ℕ, suc, ◌+◌, ◌<◌, ◌≤◌, pos, set, Ok}
 use Rattle.std.proofs.Common.{sym, ap, ◌∙◌, subst, le_antisymm, add-one, arith}
 use Rattle.values.specs.declared.Number.{Number}
 use Rattle.values.specs.declared.Outcome.{Outcome}
 use Rattle.values.specs.declared.Slot.{Slot}
 use Rattle.values.specs.Outcomes.{number_in, is_done}
-use Rattle.refusals.specs.declared.Answer.{Answer}
 use Rattle.table.specs.declared.VariableSlot.{VariableSlot}
 use Rattle.table.specs.Limits.{limits}
 use Rattle.table.specs.Tables.{entry_at, number_at}
@@ -29,12 +28,12 @@ pub record Come (m : Monitor) (s : Taken) (results : List Slot) (held : List Var
   pub walk : record { results = results; held = held; cells = cells } ≡ walk_to m s k
 
 -- there is a slot for every entry
-pub slots_enough : (m : Monitor) → unsound m ≡ Answer.Accepted → m.table.n ≤ limits.slots
+pub slots_enough : (m : Monitor) → unsound m ≡ Ok tt → m.table.n ≤ limits.slots
 slots_enough m good = (sound_of m good).within.entries
 
 module _ (m : Monitor) (k : ℕ) {p : Places} (placed : p ≡ places_of (entry_at m.table k)) where
   -- where an entry looks there is a slot
-  pub places_there : unsound m ≡ Answer.Accepted → k < m.table.n → Inside p
+  pub places_there : unsound m ≡ Ok tt → k < m.table.n → Inside p
   places_there good below =
       let sound = sound_of m good in
       let few = slots_enough m good in
@@ -66,7 +65,7 @@ module _ (o y : Outcome) (v : ℕ) (held : List VariableSlot) {after : List Vari
 pub all_taken : (m : Monitor) (s : Taken) {results : List Slot} {held : List VariableSlot} {cells : List ℕ} (k : ℕ)
     → record { results = results; held = held; cells = cells } ≡ walk_to m s k → k ≤ m.table.n → m.table.n ≤ k
     → record {
-      answer = Answer.Accepted;
+      answer = Ok tt;
       monitor = record { table = m.table; last = s.time + 1; reported = s.reported; held = held; cells = cells };
       results = results;
     } ≡ advanced m s

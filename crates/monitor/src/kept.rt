@@ -8,7 +8,7 @@ ghost use Rattle.memory.specs.Recall.{kept_fits};
 ghost use Rattle.monitor.specs.Keeping.{kept_fault, unsound};
 
 use crate::Monitor;
-use refusals::{Answer, Refusal};
+use refusals::Refusal;
 use table::{Table, VariableSlot};
 
 // "Times are milliseconds, 0 to 2^47-1": a kept time is one more than the time, and 0 where there is none.
@@ -19,7 +19,7 @@ fn kept_fits(kept: u64) -> bool
 }
 
 // "a kept number ... out of range": the number that each variable holds.
-fn held_fault(held: [VariableSlot; Table::VARIABLES]) -> Answer
+fn held_fault(held: [VariableSlot; Table::VARIABLES]) -> Result<(), Refusal>
     ensures { result ≡ first_fault limits.variables (λ x. number_fault (number_at held x)) }
 {
     let mut x: usize = 0;
@@ -27,38 +27,38 @@ fn held_fault(held: [VariableSlot; Table::VARIABLES]) -> Answer
         let slot = held[x];
         let number = slot.number;
         if !number.in_range() {
-            return Answer::Refused(Refusal::Range);
+            return Err(Refusal::Range);
         }
         x += 1;
     }
-    Answer::Accepted
+    Ok(())
 }
 
 // "a kept ... time out of range": what each entry remembers.
-fn cells_fault(cells: [u64; Table::ENTRIES]) -> Answer
+fn cells_fault(cells: [u64; Table::ENTRIES]) -> Result<(), Refusal>
     ensures { result ≡ first_fault limits.slots (λ k. unless (kept_fits (get_or cells k 0)) Refusal.Unsound) }
 {
     let mut k: usize = 0;
     while k < Table::ENTRIES {
         if !kept_fits(cells[k]) {
-            return Answer::Refused(Refusal::Unsound);
+            return Err(Refusal::Unsound);
         }
         k += 1;
     }
-    Answer::Accepted
+    Ok(())
 }
 
 // "a kept number or time out of range": the last time, then the numbers, then what the entries remember.
-fn kept_fault(m: Monitor) -> Answer
+fn kept_fault(m: Monitor) -> Result<(), Refusal>
     ensures { result ≡ kept_fault m }
 {
     if !kept_fits(m.last) {
-        return Answer::Refused(Refusal::Unsound);
+        return Err(Refusal::Unsound);
     }
     let held = m.held;
     match held_fault(held) {
-        Answer::Refused(r) => Answer::Refused(r),
-        Answer::Accepted => {
+        Err(r) => Err(r),
+        Ok(()) => {
             let cells = m.cells;
             cells_fault(cells)
         }
@@ -66,22 +66,22 @@ fn kept_fault(m: Monitor) -> Answer
 }
 
 // Any fault is 29.
-fn as_unsound(a: Answer) -> Answer
+fn as_unsound(a: Result<(), Refusal>) -> Result<(), Refusal>
     ensures { result ≡ as_unsound a }
 {
     match a {
-        Answer::Accepted => Answer::Accepted,
-        Answer::Refused(r) => Answer::Refused(Refusal::Unsound),
+        Ok(()) => Ok(()),
+        Err(r) => Err(Refusal::Unsound),
     }
 }
 
 // "29: monitor or table that the writer would refuse with 4, 7, 8 or 13, or a kept number or time out of range"
-pub fn unsound(m: Monitor) -> Answer
+pub fn unsound(m: Monitor) -> Result<(), Refusal>
     ensures { result ≡ unsound m }
 {
     let table = m.table;
     match sound::fault(table) {
-        Answer::Refused(r) => Answer::Refused(Refusal::Unsound),
-        Answer::Accepted => as_unsound(kept_fault(m)),
+        Err(r) => Err(Refusal::Unsound),
+        Ok(()) => as_unsound(kept_fault(m)),
     }
 }

@@ -4,13 +4,13 @@
 mod kept;
 mod walk;
 
-ghost use Rattle.std.specs.Prelude.{◌≡◌, ◌<◌, ◌^◌};
+ghost use Rattle.std.specs.Prelude.{◌≡◌, ◌<◌, ◌^◌, Ok, tt};
 ghost use Rattle.monitor.specs.Keeping.{unsound, fresh, start_on};
 ghost use Rattle.monitor.specs.Stepping.{refused_step, step_reply, step_of};
 
 use crate::walk::advance;
 pub use kept::unsound;
-use refusals::{Answer, Refusal};
+use refusals::Refusal;
 use step::{Taken, TruthSlot};
 use table::{Table, VariableSlot};
 use values::{Outcome, Slot, Truth};
@@ -33,14 +33,14 @@ pub struct Monitor {
 // A start: a monitor, or 29 and the monitor of the empty table.
 #[derive(Clone, Copy)]
 pub struct Started {
-    pub answer: Answer,
+    pub answer: Result<(), Refusal>,
     pub monitor: Monitor,
 }
 
 // A step: the new monitor and its results, or the refusal, the monitor as it came and 128 times "no result".
 #[derive(Clone, Copy)]
 pub struct Stepped {
-    pub answer: Answer,
+    pub answer: Result<(), Refusal>,
     pub monitor: Monitor,
     pub results: [Slot; Table::ENTRIES],
 }
@@ -66,12 +66,12 @@ pub fn start(t: Table) -> Started
     ensures { result ≡ start_on t }
 {
     match sound::fault(t) {
-        Answer::Accepted => Started {
-            answer: Answer::Accepted,
+        Ok(()) => Started {
+            answer: Ok(()),
             monitor: fresh(t),
         },
-        Answer::Refused(r) => Started {
-            answer: Answer::Refused(Refusal::Unsound),
+        Err(r) => Started {
+            answer: Err(Refusal::Unsound),
             monitor: fresh(Table::empty()),
         },
     }
@@ -82,7 +82,7 @@ fn refused(r: Refusal, m: Monitor) -> Stepped
     ensures { result ≡ refused_step r m }
 {
     Stepped {
-        answer: Answer::Refused(r),
+        answer: Err(r),
         monitor: m,
         results: [Slot {
             outcome: Outcome::Nothing,
@@ -92,13 +92,13 @@ fn refused(r: Refusal, m: Monitor) -> Stepped
 
 // A step that was read is taken; one that was refused changes nothing.
 fn reply(m: Monitor, taken: Taken) -> Stepped
-    requires { (unsound m ≡ Answer.Accepted) × (taken.time < 2 ^ 47) }
+    requires { (unsound m ≡ Ok tt) × (taken.time < 2 ^ 47) }
     ensures { result ≡ step_reply taken.answer m taken }
 {
     let answer = taken.answer;
     match answer {
-        Answer::Accepted => advance(m, taken),
-        Answer::Refused(r) => refused(r, m),
+        Ok(()) => advance(m, taken),
+        Err(r) => refused(r, m),
     }
 }
 
@@ -107,11 +107,11 @@ pub fn step(m: Monitor, s: &[u8]) -> Stepped
     ensures { result ≡ step_of m s.now }
 {
     match unsound(m) {
-        Answer::Accepted => {
+        Ok(()) => {
             let table = m.table;
             let reported = m.reported;
             reply(m, step::read(table, m.last, reported, s))
         }
-        Answer::Refused(fault) => refused(fault, m),
+        Err(fault) => refused(fault, m),
     }
 }

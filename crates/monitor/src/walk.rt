@@ -1,5 +1,5 @@
 // One accepted step: the entries in script order.
-ghost use Rattle.std.specs.Prelude.{◌≡◌, suc, ◌<◌, ◌^◌, pos};
+ghost use Rattle.std.specs.Prelude.{◌≡◌, suc, ◌<◌, ◌^◌, pos, Ok, tt};
 ghost use Rattle.meaning.specs.Meaning.{meaning};
 ghost use Rattle.memory.specs.Memory.{memory_of, remember};
 ghost use Rattle.memory.specs.Recall.{givens_from};
@@ -9,7 +9,6 @@ ghost use Rattle.monitor.specs.Stepping.{advanced};
 use crate::{Monitor, Stepped};
 use meaning::{places_of, result};
 use memory::{givens, memory_of, remember};
-use refusals::Answer;
 use step::{Taken, Told};
 use table::{Entry, Table, VariableSlot};
 use values::{Number, Outcome, Slot, Truth};
@@ -45,7 +44,7 @@ fn judge(
 
 // "Entries are taken in script order within a step."
 pub(crate) fn advance(m: Monitor, s: Taken) -> Stepped
-    requires { (unsound m ≡ Answer.Accepted) × (s.time < 2 ^ 47) }
+    requires { (unsound m ≡ Ok tt) × (s.time < 2 ^ 47) }
     ensures { result ≡ advanced m s }
 {
     let table = m.table;
@@ -85,7 +84,7 @@ pub(crate) fn advance(m: Monitor, s: Taken) -> Stepped
     }
     let reported = s.reported;
     Stepped {
-        answer: Answer::Accepted,
+        answer: Ok(()),
         monitor: Monitor {
             table: table,
             last: time + 1,

@@ -1,8 +1,8 @@
 -- Labels and their block stand within the script.
-use Rattle.std.specs.Prelude.{Bool, true, false, cond, ◌&&◌, List, ◌≡◌, refl, ℕ, ◌+◌, ◌-◌, ◌*◌, ◌/◌, ◌≤◌, leb, ltb, length, take, drop}
+use Rattle.std.specs.Prelude.{Bool, true, false, cond, ◌&&◌, List, ◌≡◌, refl, ℕ, ◌+◌, ◌-◌, ◌*◌, ◌/◌, ◌≤◌, leb, ltb, length, take, drop, Ok, Err}
 use Rattle.std.proofs.Common.{sym, ◌∙◌, ap, subst, add_comm, arith, leb-true, length-take, length-drop, take_all}
 use Rattle.refusals.specs.declared.Refusal.{Refusal}
-use Rattle.refusals.specs.declared.Answer.{Answer}
+use Rattle.refusals.specs.Answers.{Answer}
 use Rattle.refusals.specs.Numbering.{unless}
 use Rattle.refusals.specs.Accepting.{unless_accepted}
 use Rattle.bits.specs.Bits.{wholly}
@@ -25,8 +25,8 @@ Inside s span = span.from + span.size ≤ length s
 
 -- a value that is judged
 gives_judged : {A : Type 0} (answer : Answer) (a : A) (next : ℕ) {P : A → ℕ → Type 0} → P a next → Gives (judged answer a next) P
-gives_judged Answer.Accepted a next p = gives_value p
-gives_judged (Answer.Refused r) a next p = gives_refused
+gives_judged (Ok _) a next p = gives_value p
+gives_judged (Err r) a next p = gives_refused
 
 -- a text that is wholly there
 text_there : (size at : ℕ) (whole : Bool) (answer : Answer) {P : Span → Type 0} → (whole ≡ true → P (record { from = at / 8; size = size }))

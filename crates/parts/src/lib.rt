@@ -6,15 +6,15 @@ ghost use Rattle.script.specs.Reader.{label_of, text_of, block_of};
 ghost use Rattle.reader.specs.Scans.{block_span};
 ghost use Rattle.parts.specs.Shown.{outcome_number, script_number};
 
-use refusals::Answer;
+use refusals::Refusal;
 
 // The refusal's number, 0 where nothing is refused.
-pub fn outcome(answer: Answer) -> u8
+pub fn outcome(answer: Result<(), Refusal>) -> u8
     ensures { result ≡ outcome_number answer }
 {
     match answer {
-        Answer::Accepted => 0,
-        Answer::Refused(r) => refusals::number(r),
+        Ok(()) => 0,
+        Err(r) => refusals::number(r),
     }
 }
 

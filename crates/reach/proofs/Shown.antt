@@ -1,11 +1,11 @@
 -- What a reach shows is one thing only: the worked-out marks.
 use Rattle.std.specs.Prelude.{Bool, true, false, ◌&&◌, List, ◌∷◌, ◌≡◌, refl, ℕ, ◌<◌, ◌≤◌, T, ltb, pos, length, get_or, replicate}
-use Rattle.std.proofs.Common.{sym, ◌∙◌, ap, subst, arith, ltb-true, ext_get_or}
+use Rattle.std.proofs.Common.{sym, ◌∙◌, ap, subst, arith, ltb-true, ext_get_or, Ok, Err}
 use Rattle.std.proofs.Math.Decide.{dec_lt}
 use Rattle.std.proofs.Math.ListN.{get_or-eq_default}
 use Rattle.values.specs.declared.Number.{Number}
 use Rattle.refusals.specs.declared.Refusal.{Refusal}
-use Rattle.refusals.specs.declared.Answer.{Answer}
+use Rattle.refusals.specs.Answers.{Answer}
 use Rattle.refusals.specs.Numbering.{unless, and_then}
 use Rattle.refusals.specs.Accepting.{not_accepted, unless_accepted}
 use Rattle.bits.specs.Bits.{list_to}
@@ -32,12 +32,12 @@ same_test false true there back = absurd (back tt)
 same_test false false there back = refl
 
 -- neither 29 nor what comes after it
-asked : (a b : Answer) → and_then (as_unsound a) b ≡ Answer.Accepted → (a ≡ Answer.Accepted) × (b ≡ Answer.Accepted)
-asked Answer.Accepted b good = (refl, good)
-asked (Answer.Refused r) b good = not_accepted Refusal.Unsound good
+asked : (a b : Answer) → and_then (as_unsound a) b ≡ Ok tt → (a ≡ Ok tt) × (b ≡ Ok tt)
+asked (Ok _) b good = (refl, good)
+asked (Err r) b good = not_accepted Refusal.Unsound good
 
 -- a reach that is not refused is asked of a table without fault, and of an entry of it
-pub reach_asked : (t : Table) (k : ℕ) → reach_fault t k ≡ Answer.Accepted → (table_fault t ≡ Answer.Accepted) × (k < t.n)
+pub reach_asked : (t : Table) (k : ℕ) → reach_fault t k ≡ Ok tt → (table_fault t ≡ Ok tt) × (k < t.n)
 unfolding reach_fault unsound_table
 reach_asked t k good =
     let parts = asked (table_fault t) (unless (ltb k t.n) Refusal.NoEntry) good in
@@ -66,7 +66,7 @@ no_import t sound S i past =
     same_test (reaches_import t S i) false (λ reaches. let below = reached_below t sound S i reaches in omega arith) (λ none. absurd none)
 
 -- "A reach shows all three: its entries, its imports and whether it has the clock."
-shows_marks : (t : Table) (k : ℕ) → reach_fault t k ≡ Answer.Accepted → Shows t k (marks_of t k)
+shows_marks : (t : Table) (k : ℕ) → reach_fault t k ≡ Ok tt → Shows t k (marks_of t k)
 unfolding marks_of
 shows_marks t k good =
     let sound = sound_table t (reach_asked t k good).0 in
@@ -87,15 +87,15 @@ shows_marks t k good =
     }
 
 -- what is worked out is what a reach shows
-pub shows_worked_out : (t : Table) (k : ℕ) → reach_fault t k ≡ Answer.Accepted → Shows t k (reach_of t k)
+pub shows_worked_out : (t : Table) (k : ℕ) → reach_fault t k ≡ Ok tt → Shows t k (reach_of t k)
 unfolding reach_of
 shows_worked_out t k good = subst (Shows t k) (ap (reach_reply t k) (sym good)) (shows_marks t k good)
 
 -- the reply to an answer
 reply_marks : (t : Table) (k : ℕ) (a : Answer) → reach_fault t k ≡ a → ReachReply t k a (reach_reply t k a)
 unfolding marks_of
-reply_marks t k Answer.Accepted good = (refl, shows_marks t k good)
-reply_marks t k (Answer.Refused f) refused = refl
+reply_marks t k (Ok _) good = (refl, shows_marks t k good)
+reply_marks t k (Err f) refused = refl
 
 -- the worked-out reply is one that a reach may give
 pub reply_worked_out : (t : Table) (k : ℕ) → ReachReply t k (reach_fault t k) (reach_of t k)
@@ -123,8 +123,8 @@ shown_same t k a b answer x y =
 
 -- two replies to an answer are the same
 replies_same : (t : Table) (k : ℕ) (answer : Answer) (a b : Reach) → ReachReply t k answer a → ReachReply t k answer b → a ≡ b
-replies_same t k Answer.Accepted a b x y = shown_same t k a b (x.0 ∙ sym y.0) x.1 y.1
-replies_same t k (Answer.Refused f) a b x y = x ∙ sym y
+replies_same t k (Ok _) a b x y = shown_same t k a b (x.0 ∙ sym y.0) x.1 y.1
+replies_same t k (Err f) a b x y = x ∙ sym y
 
 -- "two replies allowed by the statement are equal"
 pub reply_same : (t : Table) (k : ℕ) (a b : Reach) → ReachReply t k (reach_fault t k) a → ReachReply t k (reach_fault t k) b → a ≡ b
@@ -152,11 +152,11 @@ read_then_update =
     }
 
 -- "every update of that variable, wherever it stands": the read reaches the later update, and with it the event and the constant
-pub later_update : reach_of read_then_update 0 ≡ record { answer = Answer.Accepted; entries = true ∷ true ∷ true ∷ true ∷ replicate 124 false; imports = true ∷ replicate 47 false; clock = false }
+pub later_update : reach_of read_then_update 0 ≡ record { answer = Ok tt; entries = true ∷ true ∷ true ∷ true ∷ replicate 124 false; imports = true ∷ replicate 47 false; clock = false }
 unfolding the_reach
 later_update = refl
 
 -- but the constant reaches nothing else
-pub constant_alone : reach_of read_then_update 2 ≡ record { answer = Answer.Accepted; entries = false ∷ false ∷ true ∷ replicate 125 false; imports = replicate 48 false; clock = false }
+pub constant_alone : reach_of read_then_update 2 ≡ record { answer = Ok tt; entries = false ∷ false ∷ true ∷ replicate 125 false; imports = replicate 48 false; clock = false }
 unfolding the_reach
 constant_alone = refl

@@ -1,8 +1,7 @@
 -- In a sound table an entry leads to entries of the table: its operands stand earlier, its import is below q, its variable below v.
-use Rattle.std.specs.Prelude.{List, [], ◌∷◌, ◌≡◌, ℕ, ◌<◌, T, ltb, eqb}
+use Rattle.std.specs.Prelude.{List, [], ◌∷◌, ◌≡◌, ℕ, ◌<◌, T, ltb, eqb, Ok}
 use Rattle.std.proofs.Common.{subst, ltb-true, eqb→eq}
 use Rattle.refusals.specs.declared.Refusal.{Refusal}
-use Rattle.refusals.specs.declared.Answer.{Answer}
 use Rattle.refusals.specs.Numbering.{unless}
 use Rattle.refusals.specs.Accepting.{unless_accepted, accepted_first, accepted_second}
 use Rattle.table.specs.declared.Table.{Table}
@@ -12,11 +11,11 @@ use Rattle.table.specs.Faults.{operand_fault, operands_fault}
 use Rattle.reach.specs.Reaching.{is_operand, is_read, names_import}
 
 -- what is not refused with 7 is below its bound, and so is a number that equals it
-below : (a b bound : ℕ) → unless (ltb a bound) Refusal.Operand ≡ Answer.Accepted → T (eqb a b) → b < bound
+below : (a b bound : ℕ) → unless (ltb a bound) Refusal.Operand ≡ Ok tt → T (eqb a b) → b < bound
 below a b bound good same = subst (λ x. x < bound) (eqb→eq a b same) (ltb-true a bound (unless_accepted (ltb a bound) Refusal.Operand good))
 
 -- "Operand entries stand earlier in the script."
-pub operand_earlier : (t : Table) (k : ℕ) (os : List Operand) → operands_fault t k os ≡ Answer.Accepted → (o : ℕ) → T (is_operand os o) → o < k
+pub operand_earlier : (t : Table) (k : ℕ) (os : List Operand) → operands_fault t k os ≡ Ok tt → (o : ℕ) → T (is_operand os o) → o < k
 unfolding operands_fault operand_fault is_operand
 operand_earlier t k [] good o is = absurd is
 operand_earlier t k (entry s a ∷ os) good o is =
@@ -28,7 +27,7 @@ operand_earlier t k (variable x ∷ os) good o is = operand_earlier t k os (acce
 operand_earlier t k (constant z ∷ os) good o is = operand_earlier t k os (accepted_second (operand_fault t k (constant z)) (operands_fault t k os) good) o is
 
 -- no "import ≥ q"
-pub import_below : (t : Table) (k : ℕ) (os : List Operand) → operands_fault t k os ≡ Answer.Accepted → (i : ℕ) → T (names_import os i) → i < t.q
+pub import_below : (t : Table) (k : ℕ) (os : List Operand) → operands_fault t k os ≡ Ok tt → (i : ℕ) → T (names_import os i) → i < t.q
 unfolding operands_fault operand_fault names_import
 import_below t k [] good i is = absurd is
 import_below t k (entry s a ∷ os) good i is = absurd is
@@ -38,7 +37,7 @@ import_below t k (variable x ∷ os) good i is = absurd is
 import_below t k (constant z ∷ os) good i is = absurd is
 
 -- no "variable ≥ v"
-pub read_below : (t : Table) (k : ℕ) (os : List Operand) → operands_fault t k os ≡ Answer.Accepted → (x : ℕ) → T (is_read os x) → x < t.v
+pub read_below : (t : Table) (k : ℕ) (os : List Operand) → operands_fault t k os ≡ Ok tt → (x : ℕ) → T (is_read os x) → x < t.v
 unfolding operands_fault operand_fault is_read
 read_below t k [] good x is = absurd is
 read_below t k (entry s a ∷ os) good x is = absurd is

@@ -1,9 +1,9 @@
 -- "The reach of an entry is the least set that holds the entry; with any entry, its operand entries; with any read of a variable, every update of that variable, wherever it stands."
-use Rattle.std.specs.Prelude.{Bool, true, false, ◌&&◌, ◌||◌, List, [], ◌∷◌, ◌↔◌, ◌≡◌, refl, ℕ, ◌<◌, ◌≤◌, T, ltb, eqb, length, get_or, replicate}
+use Rattle.std.specs.Prelude.{Bool, true, false, ◌&&◌, ◌||◌, List, [], ◌∷◌, ◌↔◌, ◌≡◌, refl, ℕ, ◌<◌, ◌≤◌, T, ltb, eqb, length, get_or, replicate, Ok, Err}
 use Rattle.std.proofs.Math.Bool.{or-true}
 use Rattle.std.proofs.Math.Option.{Option, none, some}
 use Rattle.refusals.specs.declared.Refusal.{Refusal}
-use Rattle.refusals.specs.declared.Answer.{Answer}
+use Rattle.refusals.specs.Answers.{Answer}
 use Rattle.refusals.specs.Numbering.{unless, and_then}
 use Rattle.table.specs.declared.Entry.{Entry}
 use Rattle.table.specs.declared.Table.{Table}
@@ -91,12 +91,12 @@ reach_fault t k = and_then (unsound_table t) (unless (ltb k t.n) Refusal.NoEntry
 
 -- "A refused reach returns no marks."
 abbrev pub no_marks : Refusal → Reach
-no_marks r = record { answer = Answer.Refused r; entries = replicate limits.slots false; imports = replicate limits.imports false; clock = false }
+no_marks r = record { answer = Err r; entries = replicate limits.slots false; imports = replicate limits.imports false; clock = false }
 
 -- what a reach may answer
 abbrev pub ReachReply : Table → ℕ → Answer → Reach → Type 0
-ReachReply t k Answer.Accepted r = (r.answer ≡ Answer.Accepted) × Shows t k r
-ReachReply t k (Answer.Refused f) r = r ≡ no_marks f
+ReachReply t k (Ok _) r = (r.answer ≡ Ok tt) × Shows t k r
+ReachReply t k (Err f) r = r ≡ no_marks f
 
 -- "with any entry, its operand entries"
 pub leads_to_operands : (t : Table) (j o : ℕ) → is_operand (operands_of (entry_at t j)) o ≡ true → leads_to t j o ≡ true

@@ -1,6 +1,6 @@
 -- A reach worked out: from the entry alone, as many times as there are entries, all that the set leads to.
-use Rattle.std.specs.Prelude.{Bool, false, ◌&&◌, ◌||◌, List, ℕ, zero, suc, eqb, get_or}
-use Rattle.refusals.specs.declared.Answer.{Answer}
+use Rattle.std.specs.Prelude.{Bool, false, ◌&&◌, ◌||◌, List, ℕ, zero, suc, eqb, get_or, Ok, Err}
+use Rattle.refusals.specs.Answers.{Answer}
 use Rattle.bits.specs.Bits.{list_to}
 use Rattle.table.specs.declared.Table.{Table}
 use Rattle.table.specs.Limits.{limits}
@@ -34,12 +34,12 @@ reached_from t k = spread_to (leads_to t) t.n t.n (alone t.n k)
 unfoldable pub marks_of : Table → ℕ → Reach
 marks_of t k =
     let set = set_of (reached_from t k) in
-    record { answer = Answer.Accepted; entries = list_to limits.slots set; imports = list_to limits.imports (reaches_import t set); clock = reaches_clock t set }
+    record { answer = Ok tt; entries = list_to limits.slots set; imports = list_to limits.imports (reaches_import t set); clock = reaches_clock t set }
 
 -- the marks, or "no marks"
 abbrev pub reach_reply : Table → ℕ → Answer → Reach
-reach_reply t k Answer.Accepted = marks_of t k
-reach_reply t k (Answer.Refused r) = no_marks r
+reach_reply t k (Ok _) = marks_of t k
+reach_reply t k (Err r) = no_marks r
 
 -- the reach of an entry of any table
 unfoldable pub reach_of : Table → ℕ → Reach

@@ -12,7 +12,7 @@ use crate::following::reached;
 use crate::touched::touched_by;
 use crate::updates::linked;
 use reach::Reach;
-use refusals::{Answer, Refusal};
+use refusals::Refusal;
 use table::Table;
 
 // "A refused reach returns no marks."
@@ -20,7 +20,7 @@ fn no_marks(refusal: Refusal) -> Reach
     ensures { result ≡ no_marks refusal }
 {
     Reach {
-        answer: Answer::Refused(refusal),
+        answer: Err(refusal),
         entries: [false; Table::ENTRIES],
         imports: [false; Table::IMPORTS],
         clock: false,
@@ -32,7 +32,7 @@ pub fn of_entry(t: Table, entry: usize) -> Reach
     ensures { ReachReply t entry (reach_fault t entry) result }
 {
     let found = sound::fault(t);
-    if let Answer::Refused(_) = found {
+    if let Err(_) = found {
         return no_marks(Refusal::Unsound);
     }
     if t.n <= entry {
@@ -42,7 +42,7 @@ pub fn of_entry(t: Table, entry: usize) -> Reach
     let touched = touched_by(t, &marks);
     let imports = touched.imports;
     Reach {
-        answer: Answer::Accepted,
+        answer: Ok(()),
         entries: marks,
         imports: imports,
         clock: touched.clock,

@@ -1,7 +1,6 @@
 // What is read of the input, and numbers and parts of a case. Numbers have their most significant byte first; a part has its length, two bytes, before it.
 ghost use Rattle.std.specs.Prelude.{◌<◌, ◌≤◌, length, IfOk};
 
-use bits::Field;
 use std::io;
 use std::io::Read;
 
@@ -22,7 +21,7 @@ pub(crate) fn read_full(input: &mut impl Read, room: &mut [u8]) -> io::Result<us
 
 // A number of `w` bits from bit `at` on, 0 where it isn't wholly there.
 fn field(s: &[u8], at: usize, w: usize) -> u64 {
-    let Field::There(v) = bits::field_at(s, at, w) else {
+    let Some(v) = bits::field_at(s, at, w) else {
         return 0;
     };
     v

@@ -1,10 +1,9 @@
 -- The head of a script, a stage at a time: what is left to read from a field on.
-use Rattle.std.specs.Prelude.{true, false, ◌||◌, List, ◌≡◌, ℕ, suc, ◌+◌, ◌-◌, ◌≤◌, ◌<◌, leb, eqb}
+use Rattle.std.specs.Prelude.{true, false, ◌||◌, List, ◌≡◌, ℕ, suc, ◌+◌, ◌-◌, ◌≤◌, ◌<◌, leb, eqb, Some, None}
 use Rattle.std.proofs.Common.{sub-eq-zero_of_le, arith}
 use Rattle.std.proofs.Math.Numerals.{add-one}
 use Rattle.refusals.specs.declared.Refusal.{Refusal}
 use Rattle.refusals.specs.Numbering.{unless}
-use Rattle.bits.specs.declared.Field.{Field}
 use Rattle.bits.specs.Bits.{field_at}
 use Rattle.bits.specs.Reading.{got, refused, Reading, give, ◌>>=◌, field}
 use Rattle.table.specs.declared.Table.{Table}
@@ -25,12 +24,12 @@ left_one i n more = omega arith
 
 module _ (q i : ℕ) (more : i < q) (t : Table) (s : List ℕ) (at : ℕ) where
   -- an import whose bit isn't there
-  pub import_cut : field_at s at 1 ≡ Field.Missing → imports (q - i) i t s at ≡ refused Refusal.Cut
+  pub import_cut : field_at s at 1 ≡ None → imports (q - i) i t s at ≡ refused Refusal.Cut
   unfolding imports
   import_cut cut = rw (left_one i q more, cut)
 
   -- an import, and then those that are left
-  pub import_next : (bit : ℕ) → field_at s at 1 ≡ Field.There bit
+  pub import_next : (bit : ℕ) → field_at s at 1 ≡ Some bit
       → imports (q - i) i t s at ≡ imports (q - (i + 1)) (i + 1) (with_event t i (eqb bit 1)) s (at + 1)
   unfolding imports
   import_next bit there = rw (left_one i q more, there, add-one i)
@@ -42,17 +41,17 @@ imports_done q i all t s at = rw (sub-eq-zero_of_le all)
 
 module _ (v x : ℕ) (more : x < v) (t : Table) (s : List ℕ) (at : ℕ) where
   -- a variable whose first bit isn't there
-  pub variable_cut : field_at s at 1 ≡ Field.Missing → variables (v - x) x t s at ≡ refused Refusal.Cut
+  pub variable_cut : field_at s at 1 ≡ None → variables (v - x) x t s at ≡ refused Refusal.Cut
   unfolding variables
   variable_cut cut = rw (left_one x v more, cut)
 
-  module _ (bit : ℕ) (there : field_at s at 1 ≡ Field.There bit) where
+  module _ (bit : ℕ) (there : field_at s at 1 ≡ Some bit) where
     -- a variable whose number isn't wholly there
-    pub number_cut : field_at s (at + 1) 48 ≡ Field.Missing → variables (v - x) x t s at ≡ refused Refusal.Cut
+    pub number_cut : field_at s (at + 1) 48 ≡ None → variables (v - x) x t s at ≡ refused Refusal.Cut
     unfolding variables
     number_cut cut = rw (left_one x v more, there, cut)
 
-    module _ (number : ℕ) (found : field_at s (at + 1) 48 ≡ Field.There number) where
+    module _ (number : ℕ) (found : field_at s (at + 1) 48 ≡ Some number) where
       -- a variable that starts undefined with a nonzero number
       pub variable_refused : (eqb bit 1 || eqb number 0) ≡ false → variables (v - x) x t s at ≡ refused Refusal.Initial
       unfolding variables

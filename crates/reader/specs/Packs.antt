@@ -1,8 +1,8 @@
 -- All that comes before the labels, one stage after another.
-use Rattle.std.specs.Prelude.{Bool, true, false, List, ◌≡◌, refl, ℕ, ◌*◌, ◌≤◌, length}
+use Rattle.std.specs.Prelude.{Bool, true, false, List, ◌≡◌, refl, ℕ, ◌*◌, ◌≤◌, length, Ok, Err}
 use Rattle.std.proofs.Common.{sym, ◌∙◌, ap, arith}
 use Rattle.refusals.specs.declared.Refusal.{Refusal}
-use Rattle.refusals.specs.declared.Answer.{Answer}
+use Rattle.refusals.specs.Answers.{Answer}
 use Rattle.bits.specs.Reading.{Got, got, refused, onward, padding}
 use Rattle.bits.specs.Packing.{holds_end}
 use Rattle.table.specs.declared.Table.{Table}
@@ -37,14 +37,14 @@ packed_whole s = refl
 
 -- whether something was refused
 abbrev pub is_refused : Answer → Bool
-is_refused Answer.Accepted = false
-is_refused (Answer.Refused r) = true
+is_refused (Ok _) = false
+is_refused (Err r) = true
 
 -- a stage that was refused ends the reading
 stops : (answer : Answer) (t : Table) (at : ℕ) (m : Got Table) (f : Table → ℕ → Got Table) → reached_by answer t at ≡ m → is_refused answer ≡ true
     → reached_by answer t at ≡ onward m f
-stops Answer.Accepted t at m f e no_way = let z : ◌≡◌ {A = ℕ} 0 1 = cc in absurd (omega arith)
-stops (Answer.Refused r) t at m f e stopped = ap (λ (x : Got Table). onward x f) e
+stops (Ok _) t at m f e no_way = let z : ◌≡◌ {A = ℕ} 0 1 = cc in absurd (omega arith)
+stops (Err r) t at m f e stopped = ap (λ (x : Got Table). onward x f) e
 
 pub stage_stops : (stage : Stage) (m : Got Table) (f : Table → ℕ → Got Table) → reached stage ≡ m → is_refused stage.answer ≡ true
     → reached stage ≡ onward m f
@@ -52,17 +52,17 @@ stage_stops stage m f e stopped = stops stage.answer stage.table stage.at m f e 
 
 -- a stage that was not leads on
 goes : (answer : Answer) (t : Table) (at : ℕ) (m : Got Table) → reached_by answer t at ≡ m → is_refused answer ≡ false → m ≡ got t at
-goes Answer.Accepted t at m e on = sym e
-goes (Answer.Refused r) t at m e no_way = let z : ◌≡◌ {A = ℕ} 0 1 = cc in absurd (omega arith)
+goes (Ok _) t at m e on = sym e
+goes (Err r) t at m e no_way = let z : ◌≡◌ {A = ℕ} 0 1 = cc in absurd (omega arith)
 
 pub stage_goes : (stage : Stage) (m : Got Table) → reached stage ≡ m → is_refused stage.answer ≡ false → m ≡ got stage.table stage.at
 stage_goes stage m e on = goes stage.answer stage.table stage.at m e on
 
 -- a stage by its answer
-pub stage_refused : (stage : Stage) (m : Got Table) (r : Refusal) → reached stage ≡ m → stage.answer ≡ Answer.Refused r → m ≡ refused r
+pub stage_refused : (stage : Stage) (m : Got Table) (r : Refusal) → reached stage ≡ m → stage.answer ≡ Err r → m ≡ refused r
 stage_refused stage m r e is = sym e ∙ ap (λ (a : Answer). reached_by a stage.table stage.at) is
 
-pub stage_accepted : (stage : Stage) (m : Got Table) → reached stage ≡ m → stage.answer ≡ Answer.Accepted → m ≡ got stage.table stage.at
+pub stage_accepted : (stage : Stage) (m : Got Table) → reached stage ≡ m → stage.answer ≡ Ok tt → m ≡ got stage.table stage.at
 stage_accepted stage m e is = sym e ∙ ap (λ (a : Answer). reached_by a stage.table stage.at) is
 
 -- every stage ends within the bytes

@@ -1,5 +1,5 @@
 -- The entries of a script, as far as they have been read.
-use Rattle.std.specs.Prelude.{List, ◌≡◌, length, set, replicate}
+use Rattle.std.specs.Prelude.{List, ◌≡◌, length, set, replicate, Ok, Err}
 use Rattle.std.proofs.Math.Logic.{⊎_elim}
 use Rattle.std.proofs.Math.Path.{refl, sym, ap}
 use Rattle.std.proofs.Common.{◌∙◌, ne_of_lt, eq-or-lt_of_le, le_of_suc-le-suc, sub-eq-zero_of_le, add-one, arith, length-set}
@@ -51,11 +51,11 @@ abbrev unused : EntrySlot
 unused = record { entry = Entry.ImportedCondition 0 }
 
 -- the answer for an entry, taken apart
-entered_refused : (m : Got Entry) (r : Refusal) → entered_of m ≡ Entered.Refused r → m ≡ refused r
+entered_refused : (m : Got Entry) (r : Refusal) → entered_of m ≡ Err r → m ≡ refused r
 entered_refused (got e next) r h = let z : ◌≡◌ {A = ℕ} 0 1 = cc in absurd (omega arith)
 entered_refused (refused q) r h = cc
 
-entered_entry : (m : Got Entry) (e : Entry) (next : ℕ) → entered_of m ≡ Entered.Entry e next → m ≡ got e next
+entered_entry : (m : Got Entry) (e : Entry) (next : ℕ) → entered_of m ≡ Ok (e, next) → m ≡ got e next
 entered_entry (got d last) e next h = cc
 entered_entry (refused q) e next h = let z : ◌≡◌ {A = ℕ} 0 1 = cc in absurd (omega arith)
 
@@ -73,7 +73,7 @@ module _ {s : List ℕ} {from : ℕ} {t table : Table} {sorts : List ℕ} {at k 
   next_entry short = rw (← so_far.events, ← so_far.counts.0, ← so_far.counts.1) (entered_by table sorts k s at so_far.known short)
 
   -- an entry that is refused
-  pub ruled_refused : length s ≤ limits.script → (r : Refusal) → entered sorts t.events t.q t.v k s at ≡ Entered.Refused r
+  pub ruled_refused : length s ≤ limits.script → (r : Refusal) → entered sorts t.events t.q t.v k s at ≡ Err r
       → entries t.n 0 t s from ≡ refused r
   ruled_refused short r e = one_left ∙ rw (entered_refused (entry table k s at) r (sym (next_entry short) ∙ e)) refl
 
@@ -95,7 +95,7 @@ module _ {s : List ℕ} {from : ℕ} {t table : Table} {sorts : List ℕ} {at k 
 
   -- one entry more
   pub ruled_next : length s ≤ limits.script → k < limits.slots → (e : Entry) (next sort : ℕ)
-      → entered sorts t.events t.q t.v k s at ≡ Entered.Entry e next → sort ≡ sort_of_kind (apart_of e).kind
+      → entered sorts t.events t.q t.v k s at ≡ Ok (e, next) → sort ≡ sort_of_kind (apart_of e).kind
       → Ruled s from t (with_entry table k e) (set sorts k sort) next (k + 1)
   ruled_next short slot e next sort read is =
       record {

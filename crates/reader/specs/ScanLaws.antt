@@ -1,12 +1,11 @@
 -- One pass over a script gives what the definitions give, each read by itself.
-use Rattle.std.specs.Prelude.{Bool, cond, ◌&&◌, List, ◌≡◌, ℕ, zero, suc, ◌+◌, ◌-◌, ◌*◌, ◌/◌, ◌<◌, ◌≤◌, ltb, length}
+use Rattle.std.specs.Prelude.{Bool, cond, ◌&&◌, List, ◌≡◌, ℕ, zero, suc, ◌+◌, ◌-◌, ◌*◌, ◌/◌, ◌<◌, ◌≤◌, ltb, length, Ok, Err}
 use Rattle.std.proofs.Math.Bool.{true, false}
 use Rattle.std.proofs.Math.Path.{refl, ap}
 use Rattle.std.proofs.Common.{sym, ◌∙◌, add-zero, add-suc, arith}
 use borrow.Author.Tests.{le-ltb, lt-ltb, ltb-true}
 use Rattle.replies.specs.Plain.{both_true}
 use Rattle.refusals.specs.declared.Refusal.{Refusal}
-use Rattle.refusals.specs.declared.Answer.{Answer}
 use Rattle.bits.specs.Reading.{Got, got, refused, onward, onward_onward}
 use Rattle.table.specs.declared.Table.{Table}
 use Rattle.table.specs.Limits.{limits}
@@ -56,7 +55,7 @@ label_counts t k n h named =
 
 -- a label that was read
 abbrev read_label : Got Span → Label
-read_label m = record { answer = Answer.Accepted; span = span_of m }
+read_label m = record { answer = Ok tt; span = span_of m }
 
 -- where reading went on after a label, the label was there
 one_there : (m : Got Span) (f : Span → ℕ → Got ℕ) (n end : ℕ) → onward m f ≡ got n end → label_reply m ≡ read_label m
@@ -87,19 +86,19 @@ labels_read s (got c next) f n end e = (c, next, refl)
 labels_read s (refused r) f n end e = let z : ◌≡◌ {A = ℕ} 0 1 = cc in absurd (omega arith)
 
 -- what all the labels answer
-among_refused : (among : Bool) (one : Got Span) (m : Got ℕ) (r : Refusal) (t : Table) → (among_reply among one m).answer ≡ Answer.Refused r
+among_refused : (among : Bool) (one : Got Span) (m : Got ℕ) (r : Refusal) (t : Table) → (among_reply among one m).answer ≡ Err r
     → onward m (λ c end. got t end) ≡ refused r
 among_refused among one (got c end) r t e = let z : ◌≡◌ {A = ℕ} 0 1 = cc in absurd (omega arith)
 among_refused among one (refused q) r t e = cc
 
-among_read : (among : Bool) (one : Got Span) (m : Got ℕ) → (among_reply among one m).answer ≡ Answer.Accepted → (c : ℕ) × (end : ℕ) × (m ≡ got c end)
+among_read : (among : Bool) (one : Got Span) (m : Got ℕ) → (among_reply among one m).answer ≡ Ok tt → (c : ℕ) × (end : ℕ) × (m ≡ got c end)
 among_read among one (got c end) e = (c, end, refl)
 among_read among one (refused q) e = let z : ◌≡◌ {A = ℕ} 0 1 = cc in absurd (omega arith)
 
 module _ (s : List ℕ) (t : Table) (at : ℕ) (room : length s ≤ limits.script) (there : packed_table s 0 ≡ got t at) where
   -- a script that is accepted, with a label
   abbrev pub whole_scan : Label → Scan
-  whole_scan l = record { answer = Answer.Accepted; table = t; block = record { from = at / 8; size = length s - at / 8 }; label = l }
+  whole_scan l = record { answer = Ok tt; table = t; block = record { from = at / 8; size = length s - at / 8 }; label = l }
 
   -- the whole script, from its labels on
   script_rest : script_of s ≡ onward (labels_to_end (labels_before t t.n) s at) (λ c end. got t end)
@@ -108,7 +107,7 @@ module _ (s : List ℕ) (t : Table) (at : ℕ) (room : length s ≤ limits.scrip
 
   -- the labels' refusal
   pub scan_no_labels : (k count wanted : ℕ) (l : Label) (r : Refusal) → count ≡ labels_before t t.n → l ≡ label_among count wanted s at
-      → l.answer ≡ Answer.Refused r → scan_of s k ≡ refused_scan r
+      → l.answer ≡ Err r → scan_of s k ≡ refused_scan r
   unfolding label_among
   scan_no_labels k count wanted l r all read e =
       scan_refused s k r
@@ -138,7 +137,7 @@ module _ (s : List ℕ) (t : Table) (at : ℕ) (room : length s ≤ limits.scrip
 
   -- all of it
   pub scan_whole : (k count wanted : ℕ) (l : Label) → count ≡ labels_before t t.n → wanted ≡ labels_before t k
-      → l ≡ label_among count wanted s at → l.answer ≡ Answer.Accepted
+      → l ≡ label_among count wanted s at → l.answer ≡ Ok tt
       → scan_of s k ≡ whole_scan (shown (ltb k t.n && labelled (entry_at t k)) l.span)
   unfolding label_among
   scan_whole k count wanted l all one read e =

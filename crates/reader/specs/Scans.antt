@@ -1,7 +1,6 @@
 -- What one pass over a script answers: its table, where its block of labels stands, and the label of one entry.
-use Rattle.std.specs.Prelude.{Bool, cond, List, ℕ, ◌-◌, ◌/◌, length}
+use Rattle.std.specs.Prelude.{Bool, cond, List, ℕ, ◌-◌, ◌/◌, length, Ok, Err}
 use Rattle.refusals.specs.declared.Refusal.{Refusal}
-use Rattle.refusals.specs.declared.Answer.{Answer}
 use Rattle.bits.specs.Reading.{Got, got, refused}
 use Rattle.table.specs.declared.Table.{Table}
 use Rattle.table.specs.Tables.{empty_table}
@@ -31,8 +30,8 @@ scan_of s k = record { answer = (read_script s).answer; table = (read_script s).
 
 -- a script that is refused
 abbrev pub refused_scan : Refusal → Scan
-refused_scan r = record { answer = Answer.Refused r; table = empty_table; block = nowhere; label = no_label r }
+refused_scan r = record { answer = Err r; table = empty_table; block = nowhere; label = no_label r }
 
 -- the label that was found, or "30: no such entry, or, for a label, not an alarm or property"
 abbrev pub shown : Bool → Span → Label
-shown among span = cond among (record { answer = Answer.Accepted; span = span }) (no_label Refusal.NoEntry)
+shown among span = cond among (record { answer = Ok tt; span = span }) (no_label Refusal.NoEntry)

@@ -1,14 +1,14 @@
 -- How far reading came, in the words of the definition.
-use Rattle.std.specs.Prelude.{ℕ}
-use Rattle.refusals.specs.declared.Answer.{Answer}
+use Rattle.std.specs.Prelude.{ℕ, Ok, Err}
+use Rattle.refusals.specs.Answers.{Answer}
 use Rattle.bits.specs.Reading.{Got, got, refused}
 use Rattle.table.specs.declared.Table.{Table}
 use Rattle.reader.specs.declared.Stage.{Stage}
 
 -- an answer, with the table so far and the bit after it
 abbrev pub reached_by : Answer → Table → ℕ → Got Table
-reached_by Answer.Accepted t at = got t at
-reached_by (Answer.Refused r) t at = refused r
+reached_by (Ok _) t at = got t at
+reached_by (Err r) t at = refused r
 
 -- a stage as the definition has it
 abbrev pub reached : Stage → Got Table

@@ -6,8 +6,7 @@ ghost use Rattle.reader.specs.Stages.{reached};
 ghost use Rattle.reader.specs.Heads.{counts};
 
 use crate::Stage;
-use bits::Field;
-use refusals::{Answer, Refusal};
+use refusals::Refusal;
 use table::{Table, VariableSlot};
 use values::Number;
 
@@ -16,7 +15,7 @@ pub(crate) fn refused(r: Refusal) -> Stage
     ensures { reached result ≡ reading.refused r }
 {
     Stage {
-        answer: Answer::Refused(r),
+        answer: Err(r),
         at: 0,
         table: Table::empty(),
     }
@@ -27,21 +26,21 @@ fn counts(s: &[u8], at: usize, n: usize) -> Stage
     requires { at ≤ 65536 }
     ensures { reached result ≡ counts n s.now at }
 {
-    let Field::There(q) = bits::field_at(s, at, 6) else {
+    let Some(q) = bits::field_at(s, at, 6) else {
         return refused(Refusal::Cut);
     };
     if Table::IMPORTS < q as usize {
         return refused(Refusal::ImportCount);
     }
     let second = at + 6;
-    let Field::There(v) = bits::field_at(s, second, 6) else {
+    let Some(v) = bits::field_at(s, second, 6) else {
         return refused(Refusal::Cut);
     };
     if Table::VARIABLES < v as usize {
         return refused(Refusal::VariableCount);
     }
     let third = second + 6;
-    let Field::There(zeros) = bits::field_at(s, third, 4) else {
+    let Some(zeros) = bits::field_at(s, third, 4) else {
         return refused(Refusal::Cut);
     };
     if zeros != 0 {
@@ -52,7 +51,7 @@ fn counts(s: &[u8], at: usize, n: usize) -> Stage
     t.q = q as usize;
     t.v = v as usize;
     Stage {
-        answer: Answer::Accepted,
+        answer: Ok(()),
         at: third + 4,
         table: t,
     }
@@ -62,13 +61,13 @@ fn counts(s: &[u8], at: usize, n: usize) -> Stage
 pub(crate) fn header(s: &[u8]) -> Stage
     ensures { reached result ≡ header s.now 0 }
 {
-    let Field::There(format) = bits::field_at(s, 0, 8) else {
+    let Some(format) = bits::field_at(s, 0, 8) else {
         return refused(Refusal::Cut);
     };
     if format != 1 {
         return refused(Refusal::Format);
     }
-    let Field::There(n) = bits::field_at(s, 8, 8) else {
+    let Some(n) = bits::field_at(s, 8, 8) else {
         return refused(Refusal::Cut);
     };
     let too_many = Table::ENTRIES < n as usize;
@@ -87,7 +86,7 @@ pub(crate) fn imports(s: &[u8], at: usize, t: Table) -> Stage
     let mut next = at;
     let mut i: usize = 0;
     while i < t.q {
-        let Field::There(bit) = bits::field_at(s, next, 1) else {
+        let Some(bit) = bits::field_at(s, next, 1) else {
             return refused(Refusal::Cut);
         };
         table.events[i] = bit == 1;
@@ -95,7 +94,7 @@ pub(crate) fn imports(s: &[u8], at: usize, t: Table) -> Stage
         i += 1;
     }
     Stage {
-        answer: Answer::Accepted,
+        answer: Ok(()),
         at: next,
         table: table,
     }
@@ -120,11 +119,11 @@ pub(crate) fn variables(s: &[u8], at: usize, t: Table) -> Stage
     let mut next = at;
     let mut x: usize = 0;
     while x < t.v {
-        let Field::There(bit) = bits::field_at(s, next, 1) else {
+        let Some(bit) = bits::field_at(s, next, 1) else {
             return refused(Refusal::Cut);
         };
         next += 1;
-        let Field::There(number) = bits::field_at(s, next, 48) else {
+        let Some(number) = bits::field_at(s, next, 48) else {
             return refused(Refusal::Cut);
         };
         let undefined = bit != 1;
@@ -138,7 +137,7 @@ pub(crate) fn variables(s: &[u8], at: usize, t: Table) -> Stage
         x += 1;
     }
     Stage {
-        answer: Answer::Accepted,
+        answer: Ok(()),
         at: next,
         table: table,
     }

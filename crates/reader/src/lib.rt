@@ -6,7 +6,7 @@ mod packed;
 mod rules;
 mod scanning;
 
-use refusals::Answer;
+use refusals::Refusal;
 pub use scanning::{find_label, read, scan_script};
 use script::{Label, Span};
 use table::Table;
@@ -14,7 +14,7 @@ use table::Table;
 // How far reading came: the table so far and the bit after it, or the refusal.
 #[derive(Clone, Copy)]
 pub struct Stage {
-    pub answer: Answer,
+    pub answer: Result<(), Refusal>,
     pub at: usize,
     pub table: Table,
 }
@@ -22,7 +22,7 @@ pub struct Stage {
 // A script read in one pass: its table, where its block of labels stands, and the label of one entry.
 #[derive(Clone, Copy)]
 pub struct Scan {
-    pub answer: Answer,
+    pub answer: Result<(), Refusal>,
     pub table: Table,
     pub block: Span,
     pub label: Label,

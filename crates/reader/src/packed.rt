@@ -7,17 +7,16 @@ ghost use Rattle.reader.specs.Stages.{reached};
 use crate::Stage;
 use crate::head::{header, imports, refused, variables};
 use crate::rules::rules;
-use bits::Field;
-use refusals::{Answer, Refusal};
+use refusals::Refusal;
 use table::Table;
 
 // Whether reading stops here.
-fn stopped(answer: Answer) -> bool
+fn stopped(answer: Result<(), Refusal>) -> bool
     ensures { result ≡ is_refused answer }
 {
     match answer {
-        Answer::Accepted => false,
-        Answer::Refused(_) => true,
+        Ok(()) => false,
+        Err(_) => true,
     }
 }
 
@@ -27,14 +26,14 @@ fn padded(s: &[u8], at: usize, t: Table) -> Stage
     ensures { reached result ≡ after_entries s.now t at }
 {
     let w = (8 - at % 8) % 8;
-    let Field::There(zeros) = bits::field_at(s, at, w) else {
+    let Some(zeros) = bits::field_at(s, at, w) else {
         return refused(Refusal::Cut);
     };
     if zeros != 0 {
         return refused(Refusal::Padding);
     }
     Stage {
-        answer: Answer::Accepted,
+        answer: Ok(()),
         at: at + w,
         table: t,
     }

@@ -5,8 +5,6 @@ ghost use Rattle.reader.specs.Stages.{reached};
 
 use crate::Stage;
 use crate::head::refused;
-use entries::Entered;
-use refusals::Answer;
 use table::{EntrySlot, Table};
 
 // "n entries"
@@ -21,10 +19,10 @@ pub(crate) fn rules(s: &[u8], from: usize, t: Table) -> Stage
     let mut k: usize = 0;
     while k < t.n {
         match entries::read(s, at, k, t.q, t.v, &sorts, &events) {
-            Entered::Refused(r) => {
+            Err(r) => {
                 return refused(r);
             }
-            Entered::Entry(e, next) => {
+            Ok((e, next)) => {
                 sorts[k] = kinds::sort_of_kind(kinds::apart_of(e).kind);
                 table.entries[k] = EntrySlot { entry: e };
                 at = next;
@@ -33,7 +31,7 @@ pub(crate) fn rules(s: &[u8], from: usize, t: Table) -> Stage
         k += 1;
     }
     Stage {
-        answer: Answer::Accepted,
+        answer: Ok(()),
         at: at,
         table: table,
     }

@@ -8,7 +8,7 @@ ghost use Rattle.reader.specs.Scans.{scan_of, refused_scan, shown};
 
 use crate::Scan;
 use crate::packed::packed;
-use refusals::{Answer, Refusal};
+use refusals::Refusal;
 use script::{Label, Script, Span};
 use table::Table;
 
@@ -17,11 +17,11 @@ fn refused_scan(r: Refusal) -> Scan
     ensures { result ≡ refused_scan r }
 {
     Scan {
-        answer: Answer::Refused(r),
+        answer: Err(r),
         table: Table::empty(),
         block: Span { from: 0, size: 0 },
         label: Label {
-            answer: Answer::Refused(r),
+            answer: Err(r),
             span: Span { from: 0, size: 0 },
         },
     }
@@ -48,12 +48,12 @@ fn shown_label(named: bool, span: Span) -> Label
 {
     if named {
         return Label {
-            answer: Answer::Accepted,
+            answer: Ok(()),
             span: span,
         };
     }
     Label {
-        answer: Answer::Refused(Refusal::NoEntry),
+        answer: Err(Refusal::NoEntry),
         span: Span { from: 0, size: 0 },
     }
 }
@@ -68,12 +68,12 @@ fn labels_from(s: &[u8], k: usize, from: usize, t: Table) -> Scan
     let all = labels::read(s, from, count, wanted);
     let answer = all.answer;
     match answer {
-        Answer::Refused(r) => refused_scan(r),
-        Answer::Accepted => {
+        Err(r) => refused_scan(r),
+        Ok(()) => {
             let span = all.span;
             let label = shown_label(has_label(t, k), span);
             Scan {
-                answer: Answer::Accepted,
+                answer: Ok(()),
                 table: t,
                 block: Span {
                     from: from,
@@ -96,8 +96,8 @@ pub fn scan_script(s: &[u8], k: usize) -> Scan
     let stage = packed(s);
     let answer = stage.answer;
     match answer {
-        Answer::Refused(r) => refused_scan(r),
-        Answer::Accepted => {
+        Err(r) => refused_scan(r),
+        Ok(()) => {
             let table = stage.table;
             labels_from(s, k, stage.at / 8, table)
         }

@@ -1,8 +1,7 @@
 -- "Refusal numbers and their order": the number of each refusal, and that the first fault decides.
-use Rattle.std.specs.Prelude.{Bool, true, false, ℕ, zero, suc, ◌<◌}
+use Rattle.std.specs.Prelude.{Bool, true, false, ℕ, zero, suc, ◌<◌, Ok, Err}
 use Rattle.std.proofs.Common.{arith}
-use Rattle.refusals.specs.declared.Answer.{Answer}
-use Rattle.refusals.specs.declared.Answer.TheVariants.{Accepted, Refused}
+use Rattle.refusals.specs.Answers.{Answer}
 use Rattle.refusals.specs.declared.Refusal.{Refusal}
 use Rattle.refusals.specs.declared.Refusal.TheVariants.{TooLong, Cut, Format, EntryCount, ImportCount, VariableCount, HeaderBits, TableLimits, Initial, Kind, Operand, Sort, Padding, Label, LeftOver, NoRoom, Range, StepCut, Time, StepImport, ImportOrder, ConditionReport, StepPadding, StepLeftOver, Unsound, NoEntry}
 
@@ -66,15 +65,15 @@ number_low NoEntry = omega arith
 
 -- accepted if so, else that refusal
 abbrev pub unless : Bool → Refusal → Answer
-unless true r = Accepted
-unless false r = Refused r
+unless true r = Ok tt
+unless false r = Err r
 
 -- "the first fault decides"
 abbrev pub and_then : Answer → Answer → Answer
-and_then Accepted b = b
-and_then (Refused r) b = Refused r
+and_then (Ok _) b = b
+and_then (Err r) b = Err r
 
 -- the first fault among f 0, f 1, ..., f (n - 1)
 unfoldable pub first_fault : ℕ → (ℕ → Answer) → Answer
-first_fault zero f = Accepted
+first_fault zero f = Ok tt
 first_fault (suc n) f = and_then (first_fault n f) (f n)

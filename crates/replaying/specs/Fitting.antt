@@ -1,5 +1,5 @@
 -- No move prints more than there is room for.
-use Rattle.std.specs.Prelude.{Bool, true, false, ◌≡◌, refl, length, get_or, drop}
+use Rattle.std.specs.Prelude.{Bool, true, false, ◌≡◌, refl, length, get_or, drop, Ok, Err}
 use mathlib.Core.List.{List, [], ◌∷◌}
 use Rattle.std.proofs.Math.Path.{subst}
 use Prim.Native.Nat.{ℕ, zero, suc, ◌*◌, ◌^◌, ◌<◌, ◌≤◌}
@@ -11,7 +11,7 @@ use Rattle.std.proofs.lemmas.List.{get_or-replicate}
 use Rattle.values.specs.declared.Truth.{Truth}
 use Rattle.values.specs.declared.Outcome.{Outcome}
 use Rattle.refusals.specs.declared.Refusal.{Refusal}
-use Rattle.refusals.specs.declared.Answer.{Answer}
+use Rattle.refusals.specs.Answers.{Answer}
 use Rattle.refusals.specs.Numbering.{number_of}
 use Rattle.refusals.specs.Accepting.{not_accepted}
 use Rattle.bits.specs.Reading.{Got, got, refused}
@@ -107,31 +107,31 @@ pub record Bounded (s : Stepped) : Type 0 where
   pub time : time_of s.monitor < 2 ^ 47
 
 -- a step that was read, over a table that is sound
-reply_bounded : (a : Answer) (m : Monitor) (s : Taken) → m.table.n ≤ limits.entries → s.time < 2 ^ 47 → (step_reply a m s).answer ≡ Answer.Accepted
+reply_bounded : (a : Answer) (m : Monitor) (s : Taken) → m.table.n ≤ limits.entries → s.time < 2 ^ 47 → (step_reply a m s).answer ≡ Ok tt
     → Bounded (step_reply a m s)
 unfolding advanced monitor_after
-reply_bounded Answer.Accepted m s few early good = record { entries = few; time = omega arith }
-reply_bounded (Answer.Refused r) m s few early good = not_accepted r good
+reply_bounded (Ok _) m s few early good = record { entries = few; time = omega arith }
+reply_bounded (Err r) m s few early good = not_accepted r good
 
 -- and after 29
-sound_bounded : (a : Answer) (m : Monitor) (bytes : List ℕ) → unsound m ≡ a → (sound_step a m bytes).answer ≡ Answer.Accepted → Bounded (sound_step a m bytes)
-sound_bounded Answer.Accepted m bytes sound good = reply_bounded (taken_by m bytes).answer m (taken_by m bytes) (slots_enough m sound) (taken_time m bytes _ refl) good
-sound_bounded (Answer.Refused r) m bytes sound good = not_accepted r good
+sound_bounded : (a : Answer) (m : Monitor) (bytes : List ℕ) → unsound m ≡ a → (sound_step a m bytes).answer ≡ Ok tt → Bounded (sound_step a m bytes)
+sound_bounded (Ok _) m bytes sound good = reply_bounded (taken_by m bytes).answer m (taken_by m bytes) (slots_enough m sound) (taken_time m bytes _ refl) good
+sound_bounded (Err r) m bytes sound good = not_accepted r good
 
 -- an accepted step has no more entries than there are slots, and a time below 2^47
-step_bounded : (m : Monitor) (bytes : List ℕ) → (step_of m bytes).answer ≡ Answer.Accepted → Bounded (step_of m bytes)
+step_bounded : (m : Monitor) (bytes : List ℕ) → (step_of m bytes).answer ≡ Ok tt → Bounded (step_of m bytes)
 unfolding step_of
 step_bounded m bytes good = sound_bounded (unsound m) m bytes refl good
 
 -- what is printed of a step's reply, by its answer
 said_length : (label : ℕ → List ℕ) (s : Stepped) (a : Answer) → ((k : ℕ) → k < limits.slots → length (label k) ≤ limits.label)
-    → (a ≡ Answer.Accepted → Bounded s) → length (said_of label s a) ≤ move_room
-said_length label s Answer.Accepted short bounded =
+    → (a ≡ Ok tt → Bounded s) → length (said_of label s a) ≤ move_room
+said_length label s (Ok _) short bounded =
     let b = bounded refl in
     let n = s.monitor.table.n in
     let rows = rows_length (time_of s.monitor) b.time label (result_in s.results) n (omega arith) (λ k below. short k (omega arith)) in
     omega arith
-said_length label s (Answer.Refused r) short bounded = let line = refused_length r in omega arith
+said_length label s (Err r) short bounded = let line = refused_length r in omega arith
 
 -- what is printed of a step's reply has room
 pub reply_fits : (texts sizes : List ℕ) → ((k : ℕ) → k < limits.slots → get_or sizes k 0 ≤ limits.label) → (m : Monitor) (bytes : List ℕ)
@@ -166,12 +166,12 @@ once_fits count few =
 
 -- so have both counts after a step
 accepted_fits : (a : Answer) (count : ℕ) → count < 2 ^ 64 → accepted_after a count < 2 ^ 64
-accepted_fits Answer.Accepted count few = once_fits count few
-accepted_fits (Answer.Refused r) count few = few
+accepted_fits (Ok _) count few = once_fits count few
+accepted_fits (Err r) count few = few
 
 refused_fits : (a : Answer) (count : ℕ) → count < 2 ^ 64 → refused_after a count < 2 ^ 64
-refused_fits Answer.Accepted count few = few
-refused_fits (Answer.Refused r) count few = once_fits count few
+refused_fits (Ok _) count few = few
+refused_fits (Err r) count few = once_fits count few
 
 -- a move that has room, and leaves such a player
 abbrev Fits : Move → Type 0

@@ -1,6 +1,6 @@
 -- What a player does with the bytes in front of it: a move is a whole record, or the end of the input.
-use Rattle.std.specs.Prelude.{Bool, true, false, cond, List, [], ◌++◌, ◌≡◌, ℕ, suc, ◌-◌, ◌*◌, ◌/◌, ◌%◌, ◌^◌, ◌<◌, ◌≤◌, ltb, length, get_or, take, drop, replicate}
-use Rattle.refusals.specs.declared.Answer.{Answer}
+use Rattle.std.specs.Prelude.{Bool, true, false, cond, List, [], ◌++◌, ◌≡◌, ℕ, suc, ◌-◌, ◌*◌, ◌/◌, ◌%◌, ◌^◌, ◌<◌, ◌≤◌, ltb, length, get_or, take, drop, replicate, Ok, Err}
+use Rattle.refusals.specs.Answers.{Answer}
 use Rattle.bits.specs.Bits.{list_to}
 use Rattle.bits.specs.Reading.{Got, got, refused}
 use Rattle.table.specs.declared.Table.{Table}
@@ -42,8 +42,8 @@ time_of m = m.last - 1
 
 -- what is printed of a step's reply, by the label of each entry
 abbrev pub said_of : (ℕ → List ℕ) → Stepped → Answer → List ℕ
-said_of label s Answer.Accepted = row_lines label (time_of s.monitor) (result_in s.results) s.monitor.table.n
-said_of label s (Answer.Refused r) = refused_line r
+said_of label s (Ok _) = row_lines label (time_of s.monitor) (result_in s.results) s.monitor.table.n
+said_of label s (Err r) = refused_line r
 
 -- what is printed of a step's reply
 unfoldable pub reply_lines : (ℕ → List ℕ) → Stepped → List ℕ
@@ -59,13 +59,13 @@ once_more count = cond (ltb count most_steps) (suc count) count
 
 -- how many steps were accepted after this answer
 abbrev pub accepted_after : Answer → ℕ → ℕ
-accepted_after Answer.Accepted count = once_more count
-accepted_after (Answer.Refused r) count = count
+accepted_after (Ok _) count = once_more count
+accepted_after (Err r) count = count
 
 -- how many were refused
 abbrev pub refused_after : Answer → ℕ → ℕ
-refused_after Answer.Accepted count = count
-refused_after (Answer.Refused r) count = once_more count
+refused_after (Ok _) count = count
+refused_after (Err r) count = once_more count
 
 -- a player before the first byte of a stream
 abbrev pub new_player : Player

@@ -1,7 +1,7 @@
 -- A turn in place: the words are those of the monitor that the records so far have left.
-use Rattle.std.specs.Prelude.{Bool, List, ◌≡◌, refl, ℕ, ◌+◌, ◌-◌, ◌<◌, ◌≤◌, length, get_or, take, drop}
+use Rattle.std.specs.Prelude.{Bool, List, ◌≡◌, refl, ℕ, ◌+◌, ◌-◌, ◌<◌, ◌≤◌, length, get_or, take, drop, Ok}
 use Rattle.std.proofs.Common.{sym, ◌∙◌, ap, subst, arith}
-use Rattle.refusals.specs.declared.Answer.{Answer}
+use Rattle.refusals.specs.Answers.{Answer}
 use Rattle.table.specs.declared.Table.{Table}
 use Rattle.monitor.specs.declared.Monitor.{Monitor}
 use Rattle.monitor.specs.Stepping.{step_of}
@@ -59,7 +59,7 @@ module _ {p : Player} {ended : Bool} {input : List ℕ} {from : ℕ} {out : List
       let s = step_of run.m bytes in
       let taking : Taking run.m bytes answer results state₁ results₁ = took.taken run.m run.stands.shape run.stands.sound run.words long in
       let same : n ≡ s.monitor.table.n = run.count ∙ ap (λ (t : Table). t.n) (sym (step_table run.m run.stands bytes)) in
-      let each : (k : ℕ) → s.answer ≡ Answer.Accepted → k < s.monitor.table.n → get_or results₁ k 0 ≡ _ =
+      let each : (k : ℕ) → s.answer ≡ Ok tt → k < s.monitor.table.n → get_or results₁ k 0 ≡ _ =
       λ k good below. ap (λ (l : List ℕ). get_or l k 0) taking.slots ∙ shown_at s run.m.table.n results k good (omega (arith, run.count)) (omega (arith, run.few, run.count)) in
       let last : get_or state₁ 3 0 - 1 ≡ s.monitor.last - 1 = ap (λ (l : List ℕ). get_or l 3 0 - 1) taking.words ∙ ap (λ (n : ℕ). n - 1) (last_there s.monitor) in
       let said = (λ i. answer_lines (text_kept texts sizes) (taking.answer i) (last i) (λ k. printed (get_or results₁ k 0)) (same i)) ∙ reply_printed (text_kept texts sizes) s results₁ each in

@@ -1,12 +1,11 @@
 -- What a new player prints of a whole stream is what document 01 says of it.
-use Rattle.std.specs.Prelude.{Bool, ◌≡◌, refl, length}
+use Rattle.std.specs.Prelude.{Bool, ◌≡◌, refl, length, Ok}
 use Rattle.std.proofs.Math.Bool.{true}
 use mathlib.Core.List.{List, [], ◌∷◌, ◌++◌, append-nil, flatten}
 use Rattle.std.proofs.Common.{sym, ◌∙◌, subst, not-suc-le-zero, arith, lt-ltb}
 use Rattle.std.proofs.Math.Path.{ap}
 use Prim.Native.Nat.{ℕ, zero, suc, ◌+◌, ◌^◌, ◌<◌, ◌≤◌}
 use Rattle.values.specs.declared.Outcome.{Outcome}
-use Rattle.refusals.specs.declared.Answer.{Answer}
 use Rattle.bits.specs.Reading.{Got, got, refused}
 use Rattle.table.specs.declared.Table.{Table}
 use Rattle.table.specs.Tables.{Shaped}
@@ -61,7 +60,7 @@ abbrev knowing : List ℕ → Table → History → Counts → Player
 knowing script t h c = awaiting (texts_of script) (sizes_of script) (recall_of t h) c.accepted c.refused
 
 -- a player that begins knows the history of no step
-begun_knowing : (script : List ℕ) (t : Table) → Shaped t → table_fault t ≡ Answer.Accepted → begun script t ≡ knowing script t [] nothing
+begun_knowing : (script : List ℕ) (t : Table) → Shaped t → table_fault t ≡ Ok tt → begun script t ≡ knowing script t [] nothing
 begun_knowing script t shaped good = ap (λ (s : Started). awaiting (texts_of script) (sizes_of script) s.monitor 0 0) (start_recalls t shaped good)
 
 -- one more is counted, where there is room for it
@@ -89,7 +88,7 @@ script_says ended input script rest e g read =
     ap (move_at Stage.Script new_player ended) e ∙ ap (λ (x : Got Table). says (opening_line x) (opened_by new_player script x) rest) read
 
 -- the lines of a reply are those that document 01 says of the step
-reply_says : (script : List ℕ) (t : Table) → table_fault t ≡ Answer.Accepted → (h : History) (g : Got Step)
+reply_says : (script : List ℕ) (t : Table) → table_fault t ≡ Ok tt → (h : History) (g : Got Step)
     → reply_lines (text_kept (texts_of script) (sizes_of script)) (reply_for t h g) ≡ step_lines t script h g
 unfolding reply_lines
 reply_says script t good h (got s at) =
@@ -97,7 +96,7 @@ reply_says script t good h (got s at) =
     rw (recall_table t (s ∷ h)) (rows_same t.n (λ k less. text_kept_lem script k (omega arith)) (omega (arith, recall_last t s h)) (slot_result t (s ∷ h)))
 reply_says script t good h (refused r) = refl
 
-module _ (script : List ℕ) (t : Table) (shaped : Shaped t) (good : table_fault t ≡ Answer.Accepted) where
+module _ (script : List ℕ) (t : Table) (shaped : Shaped t) (good : table_fault t ≡ Ok tt) where
   -- the move of a player that knows the history of what was offered before, where a whole record comes next
   step_says : (before : List (List ℕ)) (c : Counts) → c.accepted < most_steps → c.refused < most_steps → (ended : Bool) (input bytes rest : List ℕ)
       → next_record input ≡ whole bytes rest → let h = history_of t before in let g = offered t h bytes in

@@ -6,7 +6,6 @@ ghost use Rattle.replaying.specs.Moving.{begun, finished, opening_line, opened_b
 
 use crate::texts::texts_of;
 use crate::{Player, Stage};
-use refusals::Answer;
 use table::Table;
 
 // A player after a script, and how many bytes of the output are filled.
@@ -60,14 +59,14 @@ pub(crate) fn opened(p: Player, script: &[u8], out: &mut [u8]) -> Opening
     let read = reader::read(script);
     let answer = read.answer;
     match answer {
-        Answer::Accepted => {
+        Ok(()) => {
             let t = read.table;
             Opening {
                 player: begun(script, t),
                 filled: lines::put_script(out, 0, t.n),
             }
         }
-        Answer::Refused(r) => Opening {
+        Err(r) => Opening {
             player: finished(p),
             filled: lines::put_script_refused(out, 0, r),
         },

@@ -8,7 +8,7 @@ ghost use Rattle.replaying.specs.Rows.{printed, answer_lines};
 
 use crate::printing::{refused_line, word_line};
 use crate::texts::text_of;
-use refusals::Answer;
+use refusals::Refusal;
 use table::Table;
 
 // The line of a result by its word: 10 is an alarm that is raised, 12 a property that is violated; any other has no line.
@@ -63,7 +63,7 @@ pub(crate) fn answer_lines(
     at: usize,
     texts: &[u8],
     sizes: &[u8; Table::ENTRIES],
-    answer: Answer,
+    answer: Result<(), Refusal>,
     results: &[u64; Table::ENTRIES],
     last: u64,
     n: usize,
@@ -72,12 +72,12 @@ pub(crate) fn answer_lines(
     ensures { Lays out.old at (answer_lines (text_kept texts.now sizes.now) answer (last - 1) (λ k. printed (get_or results.now k 0)) n) out.new result }
 {
     match answer {
-        Answer::Accepted => {
+        Ok(()) => {
             if last == 0 {
                 return printed_rows(out, at, texts, sizes, results, 0, n);
             }
             printed_rows(out, at, texts, sizes, results, last - 1, n)
         }
-        Answer::Refused(r) => refused_line(out, at, r),
+        Err(r) => refused_line(out, at, r),
     }
 }

@@ -1,5 +1,5 @@
 // Records played in place: the monitor stands as words while a turn lasts.
-ghost use Rattle.std.specs.Prelude.{◌≡◌, ◌≤◌, length};
+ghost use Rattle.std.specs.Prelude.{◌≡◌, ◌≤◌, length, Ok, tt};
 ghost use Rattle.monitor.specs.Keeping.{unsound};
 ghost use Rattle.replaying.specs.Moving.{Turned};
 
@@ -8,7 +8,6 @@ use crate::rows::answer_lines;
 use crate::turning::{MOVE_ROOM, accepted_after, close, refused_after};
 use crate::{Player, Stage, Turn};
 use inplace::take;
-use refusals::Answer;
 use table::Table;
 use words::{monitor_in, pack};
 
@@ -21,7 +20,7 @@ pub(crate) fn run_steps(
     out: &mut [u8],
     start: usize,
 ) -> Turn
-    requires { (p.stage ≡ Stage.Steps) × (unsound p.monitor ≡ Answer.Accepted) × (from ≤ length input.now) × (start ≤ length out.old) }
+    requires { (p.stage ≡ Stage.Steps) × (unsound p.monitor ≡ Ok tt) × (from ≤ length input.now) × (start ≤ length out.old) }
     ensures { Turned p ended input.now from out.old start out.new result }
 {
     let texts = p.texts;

@@ -1,5 +1,5 @@
 // A turn: as many records as are there, as long as there is room for their lines.
-ghost use Rattle.std.specs.Prelude.{◌≡◌, ◌-◌, ◌≤◌, length};
+ghost use Rattle.std.specs.Prelude.{◌≡◌, ◌-◌, ◌≤◌, length, Err};
 ghost use Rattle.monitor.specs.Keeping.{unsound};
 ghost use Rattle.stream.specs.Records.{next_record};
 ghost use Rattle.replaying.specs.Moving.{once_more, accepted_after, refused_after, new_player, move_room, Turned};
@@ -10,7 +10,7 @@ use crate::opening::{finished, opened};
 use crate::printing::{closing_lines, cut_line, refused_line};
 use crate::running::run_steps;
 use crate::{Player, Stage, Turn};
-use refusals::{Answer, Refusal};
+use refusals::Refusal;
 use table::Table;
 
 // Room enough for what any one move prints.
@@ -33,22 +33,22 @@ pub fn new_player() -> Player
 }
 
 // How many steps were accepted after this answer; a number of 64 bits goes no further.
-pub(crate) fn accepted_after(answer: Answer, count: u64) -> u64
+pub(crate) fn accepted_after(answer: Result<(), Refusal>, count: u64) -> u64
     ensures { result ≡ accepted_after answer count }
 {
     match answer {
-        Answer::Accepted => once_more(count),
-        Answer::Refused(_) => count,
+        Ok(()) => once_more(count),
+        Err(_) => count,
     }
 }
 
 // How many were refused.
-pub(crate) fn refused_after(answer: Answer, count: u64) -> u64
+pub(crate) fn refused_after(answer: Result<(), Refusal>, count: u64) -> u64
     ensures { result ≡ refused_after answer count }
 {
     match answer {
-        Answer::Accepted => count,
-        Answer::Refused(_) => once_more(count),
+        Ok(()) => count,
+        Err(_) => once_more(count),
     }
 }
 
@@ -105,7 +105,7 @@ fn refused_steps(
     out: &mut [u8],
     start: usize,
 ) -> Turn
-    requires { (p.stage ≡ Stage.Steps) × (unsound p.monitor ≡ Answer.Refused Refusal.Unsound) × (from ≤ length input.now) × (start ≤ length out.old) }
+    requires { (p.stage ≡ Stage.Steps) × (unsound p.monitor ≡ Err Refusal.Unsound) × (from ≤ length input.now) × (start ≤ length out.old) }
     ensures { Turned p ended input.now from out.old start out.new result }
 {
     let mut refused = p.refused;
@@ -140,8 +140,8 @@ fn steps(p: Player, input: &[u8], from: usize, ended: bool, out: &mut [u8], star
 {
     let monitor = p.monitor;
     match monitor::unsound(monitor) {
-        Answer::Accepted => run_steps(p, input, from, ended, out, start),
-        Answer::Refused(_) => refused_steps(p, input, from, ended, out, start),
+        Ok(()) => run_steps(p, input, from, ended, out, start),
+        Err(_) => refused_steps(p, input, from, ended, out, start),
     }
 }
 

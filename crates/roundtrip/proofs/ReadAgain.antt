@@ -1,8 +1,7 @@
 -- "Script to table to script gives the same bytes": a script that is read is written again as it was, and nothing in it is refused.
 use Rattle.std.specs.Prelude.{Bool, true, false, cond, List, ◌++◌, ◌≡◌, refl, ℕ, ◌+◌, ◌*◌, ◌/◌, ◌≤◌, ltb, length, drop}
-use Rattle.std.proofs.Common.{sym, ◌∙◌, ap, ap₂, arith, take-append-drop, ltb-false, le-leb}
+use Rattle.std.proofs.Common.{sym, ◌∙◌, ap, ap₂, arith, take-append-drop, ltb-false, le-leb, Ok}
 use Rattle.refusals.specs.declared.Refusal.{Refusal}
-use Rattle.refusals.specs.declared.Answer.{Answer}
 use Rattle.bits.specs.Holding.{Bytes, width_of_all}
 use Rattle.bits.specs.Fields.{there_ends}
 use Rattle.bits.specs.Packing.{held_packed}
@@ -71,7 +70,7 @@ pub read_shaped : (s : List ℕ) (t : Table) (end : ℕ) → script_of s ≡ got
 read_shaped s t end e = ((script_read s).told t end e).table.shaped
 
 -- and it is sound
-pub read_sound : (s : List ℕ) (t : Table) (end : ℕ) → script_of s ≡ got t end → table_fault t ≡ Answer.Accepted
+pub read_sound : (s : List ℕ) (t : Table) (end : ℕ) → script_of s ≡ got t end → table_fault t ≡ Ok tt
 read_sound s t end e = ((script_read s).told t end e).table.sound
 
 -- so it has no more entries than there are slots
@@ -88,7 +87,7 @@ script_again s bytes t end e =
 
 -- a script that is read can be written, where there is room for it
 pub writer_takes : (s : List ℕ) → Bytes s → (t : Table) (end : ℕ) → script_of s ≡ got t end → (room : ℕ) → length s ≤ room
-    → writer_fault t (block_of s) room ≡ Answer.Accepted
+    → writer_fault t (block_of s) room ≡ Ok tt
 unfolding writer_fault
 writer_takes s bytes t end e room enough =
     let r = (script_read s).told t end e in

@@ -1,11 +1,9 @@
 -- One entry, read: its fields stand in the bytes, and none of its operands is at fault.
 use Rattle.std.specs.Prelude.{List, [], ◌∷◌, map, ◌≡◌, ℕ, zero, suc, ◌+◌, ◌^◌, ◌<◌, ltb, length, get_or}
 use Rattle.std.proofs.Math.Path.{refl}
-use Rattle.std.proofs.Common.{not-suc-le-zero, le_of_suc-le-suc, add-zero, arith}
+use Rattle.std.proofs.Common.{not-suc-le-zero, le_of_suc-le-suc, add-zero, arith, Ok, Some}
 use borrow.Author.Tests.{ltb-true}
 use Rattle.refusals.specs.declared.Refusal.{Refusal}
-use Rattle.refusals.specs.declared.Answer.{Answer}
-use Rattle.bits.specs.declared.Field.{Field}
 use Rattle.bits.specs.Bits.{Part, field_at}
 use Rattle.bits.specs.Twos.{signed}
 use Rattle.bits.specs.Reading.{Got, Reading, onward}
@@ -49,7 +47,7 @@ constant_packs = record { wide = λ v. refl; is = unsigned_signed }
 -- operands of entry k that were read: their fields stand in the bytes, and none is at fault
 pub record Operands (t : Table) (k : ℕ) (s : List ℕ) (at next : ℕ) (os : List Operand) : Type 0 where
   pub stand : Stands s at next (map operand_part os)
-  pub sound : operands_fault t k os ≡ Answer.Accepted
+  pub sound : operands_fault t k os ≡ Ok tt
 
 -- entry k, of that kind, that was read
 pub record Row (t : Table) (k : ℕ) (s : List ℕ) (kind at : ℕ) (e : Entry) (next : ℕ) : Type 0 where
@@ -69,8 +67,8 @@ module _ (t : Table) (k : ℕ) (s : List ℕ) where
   operands_none = record { stand = stands_none; sound = refl }
 
   -- one operand and then others
-  operands_more : (o : ℕ → Operand) (at next v : ℕ) (os : List Operand) → Packs o → field_at s at (width_of (o 0)) ≡ Field.There v
-      → operand_fault t k (o v) ≡ Answer.Accepted → Operands t k s (at + width_of (o 0)) next os → Operands t k s at next (o v ∷ os)
+  operands_more : (o : ℕ → Operand) (at next v : ℕ) (os : List Operand) → Packs o → field_at s at (width_of (o 0)) ≡ Some v
+      → operand_fault t k (o v) ≡ Ok tt → Operands t k s (at + width_of (o 0)) next os → Operands t k s at next (o v ∷ os)
   unfolding operands_fault
   operands_more o at next v os packs there good rest =
       let same : operand_part (o v) ≡ part (width_of (o 0)) v = λ i. part (packs.wide v i) (packs.is v (there_lt s at (width_of (o 0)) v there) i) in
@@ -156,7 +154,7 @@ module _ (t : Table) (k : ℕ) (s : List ℕ) where
 
   -- "5 bits of kind, then operands": an entry that was read
   pub entry_read : (at : ℕ)
-      → Gives (entry t k s at) (λ e next. Stands s at next (entry_parts e) × (operands_fault t k (operands_of e) ≡ Answer.Accepted))
+      → Gives (entry t k s at) (λ e next. Stands s at next (entry_parts e) × (operands_fault t k (operands_of e) ≡ Ok tt))
   unfolding entry entry_parts kinds
   entry_read at =
       gives_field s at 5 _ _ _

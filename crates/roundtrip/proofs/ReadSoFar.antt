@@ -1,11 +1,9 @@
 -- A table as far as it is read: the first imports, variables and entries are in their slots, and stand in the bytes.
 use Rattle.std.specs.Prelude.{Bool, true, false, cond, ◌||◌, List, [], ◌∷◌, ◌++◌, ◌≢◌, ◌≡◌, refl, ℕ, zero, suc, ◌+◌, ◌<◌, ◌≤◌, ltb, eqb, pos, length}
-use Rattle.std.proofs.Common.{append_assoc, append-nil, ⊎_elim, sym, ◌∙◌, ap, ap₂, subst, not-suc-le-zero, eq-or-lt_of_le, le_of_suc-le-suc, arith, length-set, get_or-set_same, get_or-set_other, ltb-true}
+use Rattle.std.proofs.Common.{append_assoc, append-nil, ⊎_elim, sym, ◌∙◌, ap, ap₂, subst, not-suc-le-zero, eq-or-lt_of_le, le_of_suc-le-suc, arith, length-set, get_or-set_same, get_or-set_other, ltb-true, Ok, Some}
 use Rattle.values.specs.declared.Number.{Number}
 use Rattle.refusals.specs.declared.Refusal.{Refusal}
-use Rattle.refusals.specs.declared.Answer.{Answer}
 use Rattle.refusals.specs.Numbering.{unless, and_then}
-use Rattle.bits.specs.declared.Field.{Field}
 use Rattle.bits.specs.Bits.{Part, field_at}
 use Rattle.table.specs.declared.Entry.{Entry}
 use Rattle.table.specs.declared.EntrySlot.{EntrySlot}
@@ -37,8 +35,8 @@ pub record SoFar (counts : Table) (s : List ℕ) (i x k : ℕ) (t : Table) (at :
   pub no_import : (j : ℕ) → i ≤ j → is_event t j ≡ false
   pub no_number : (j : ℕ) → x ≤ j → initial_of t j ≡ Number.Undefined
   pub no_entry_lem : (j : ℕ) → k ≤ j → j < limits.slots → entry_at t j ≡ Entry.Constant (pos 0)
-  pub numbers : (j : ℕ) → j < x → number_fault (initial_of t j) ≡ Answer.Accepted
-  pub operands : (j : ℕ) → j < k → operands_fault t j (operands_of (entry_at t j)) ≡ Answer.Accepted
+  pub numbers : (j : ℕ) → j < x → number_fault (initial_of t j) ≡ Ok tt
+  pub operands : (j : ℕ) → j < k → operands_fault t j (operands_of (entry_at t j)) ≡ Ok tt
 
 -- lists that are joined are the same where each of them is
 pub joined_same : (n : ℕ) (f g : ℕ → List Part) → ((j : ℕ) → j < n → f j ≡ g j) → joined n f ≡ joined n g
@@ -117,7 +115,7 @@ grown {kept = kept} stood same read parts = rw parts (stands_append {ps = kept} 
 
 -- one more import
 pub import_step : {c : Table} {s : List ℕ} {i : ℕ} {t : Table} {at bit : ℕ} → SoFar c s i 0 0 t at → i < limits.imports
-    → field_at s at 1 ≡ Field.There bit
+    → field_at s at 1 ≡ Some bit
     → SoFar c s (suc i) 0 0 (with_event t i (eqb bit 1)) (at + 1)
 unfolding import_parts initial_of entry_at
 import_step {c} {s} {i} {t} {at} {bit} h less there =
@@ -141,7 +139,7 @@ import_step {c} {s} {i} {t} {at} {bit} h less there =
 
 -- one more variable
 pub variable_step : {c : Table} {s : List ℕ} {i x : ℕ} {t : Table} {at bit v : ℕ} → SoFar c s i x 0 t at → x < limits.variables
-    → field_at s at 1 ≡ Field.There bit → field_at s (at + 1) 48 ≡ Field.There v → (eqb bit 1 || eqb v 0) ≡ true
+    → field_at s at 1 ≡ Some bit → field_at s (at + 1) 48 ≡ Some v → (eqb bit 1 || eqb v 0) ≡ true
     → SoFar c s i (suc x) 0 (with_variable t x (starting bit v)) (at + 1 + 48)
 unfolding is_event entry_at
 variable_step {c} {s} {i} {x} {t} {at} {bit} {v} h less first number good =
@@ -160,7 +158,7 @@ variable_step {c} {s} {i} {x} {t} {at} {bit} {v} h less first number good =
       no_import = h.no_import;
       no_number = λ j later. number_kept t x y j (omega arith) ∙ h.no_number j (omega arith);
       no_entry_lem = h.no_entry_lem;
-      numbers = below_suc (λ j. number_fault (initial_of u j) ≡ Answer.Accepted) x
+      numbers = below_suc (λ j. number_fault (initial_of u j) ≡ Ok tt) x
           (λ j lower. rw (number_kept t x y j (omega arith)) (h.numbers j lower))
           (rw here (starting_sound bit v wide));
       operands = λ j none. absurd (not-suc-le-zero none);
@@ -188,7 +186,7 @@ operands_kept t k e j (o ∷ os) before = rw (operand_kept t k e j o before, ope
 
 -- one more entry
 pub entry_step : {c : Table} {s : List ℕ} {i x k : ℕ} {t : Table} {at next : ℕ} (e : Entry) → SoFar c s i x k t at → k < limits.slots
-    → Stands s at next (entry_parts e) → operands_fault t k (operands_of e) ≡ Answer.Accepted → SoFar c s i x (suc k) (with_entry t k e) next
+    → Stands s at next (entry_parts e) → operands_fault t k (operands_of e) ≡ Ok tt → SoFar c s i x (suc k) (with_entry t k e) next
 unfolding is_event initial_of
 entry_step {c} {s} {i} {x} {k} {t} {at} {next} e h less stand good =
     let u = with_entry t k e in
@@ -204,7 +202,7 @@ entry_step {c} {s} {i} {x} {k} {t} {at} {next} e h less stand good =
       no_number = h.no_number;
       no_entry_lem = λ j later slot. entry_kept t k e j (omega arith) ∙ h.no_entry_lem j (omega arith) slot;
       numbers = h.numbers;
-      operands = below_suc (λ j. operands_fault u j (operands_of (entry_at u j)) ≡ Answer.Accepted) k
+      operands = below_suc (λ j. operands_fault u j (operands_of (entry_at u j)) ≡ Ok tt) k
           (λ j lower. operands_kept t k e j (operands_of (entry_at u j)) (omega arith) ∙ rw (entry_kept t k e j (omega arith)) (h.operands j lower))
           (operands_kept t k e k (operands_of (entry_at u k)) (omega arith) ∙ rw here good);
     }

@@ -1,14 +1,12 @@
 -- The table of a script, read: its fields stand in the bytes, zero bits follow up to a whole byte, and it has no fault.
 use Rattle.std.specs.Prelude.{false, ◌||◌, List, ◌≡◌, refl, leb, eqb, get_or, replicate}
-use Rattle.std.proofs.Common.{sym, ap, subst, arith, leb-true, eqb-true}
+use Rattle.std.proofs.Common.{sym, ap, subst, arith, leb-true, eqb-true, Ok, Some}
 use Rattle.std.proofs.Math.Path.{subst₃}
 use Prim.Native.Nat.{ℕ, zero, suc, ◌+◌, ◌*◌, ◌/◌}
 use Rattle.std.proofs.lemmas.List.{get_or-replicate}
 use Rattle.replies.specs.Plain.{both_true}
 use Rattle.values.specs.declared.Number.{Number}
 use Rattle.refusals.specs.declared.Refusal.{Refusal}
-use Rattle.refusals.specs.declared.Answer.{Answer}
-use Rattle.bits.specs.declared.Field.{Field}
 use Rattle.bits.specs.Bits.{field_at, padding_at}
 use Rattle.bits.specs.Holding.{width_of_all, Holds}
 use Rattle.table.specs.declared.Table.{Table}
@@ -110,9 +108,9 @@ module _ (c : Table) (within : Within c) (s : List ℕ) where
 pub record TableRead (s : List ℕ) (t : Table) (next : ℕ) : Type 0 where
   pub within : Within t
   pub shaped : Shaped t
-  pub sound : table_fault t ≡ Answer.Accepted
+  pub sound : table_fault t ≡ Ok tt
   pub held : Holds s 0 (table_parts t)
-  pub padded : field_at s (width_of_all (table_parts t)) (padding_at (width_of_all (table_parts t))) ≡ Field.There 0
+  pub padded : field_at s (width_of_all (table_parts t)) (padding_at (width_of_all (table_parts t))) ≡ Some 0
   pub ends : next ≡ 8 * ((width_of_all (table_parts t) + 7) / 8)
 
 -- the table's own counts are the header's
@@ -130,7 +128,7 @@ own_limits c t s i x k at within h =
     }
 
 -- every slot is read, and then the padding
-whole_table : (c t : Table) (s : List ℕ) (at : ℕ) → Within t → SoFar c s t.q t.v t.n t at → field_at s at (padding_at at) ≡ Field.There 0
+whole_table : (c t : Table) (s : List ℕ) (at : ℕ) → Within t → SoFar c s t.q t.v t.n t at → field_at s at (padding_at at) ≡ Some 0
     → TableRead s t (at + padding_at at)
 unfolding table_parts
 whole_table c t s at within h padded =
@@ -140,7 +138,7 @@ whole_table c t s at within h padded =
       shaped = h.shaped;
       sound = table_sound t (within_limits t within (unused_slots_lem t h.no_entry_lem h.no_import h.no_number)) h.numbers h.operands;
       held = h.stand.held;
-      padded = subst (λ (m : ℕ). field_at s m (padding_at m) ≡ Field.There 0) same padded;
+      padded = subst (λ (m : ℕ). field_at s m (padding_at m) ≡ Some 0) same padded;
       ends = subst (λ (m : ℕ). at + padding_at at ≡ 8 * ((m + 7) / 8)) same (omega arith);
     }
 

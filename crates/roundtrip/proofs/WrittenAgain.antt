@@ -1,9 +1,8 @@
 -- "table and labels to script and back give the same table and labels"
 use Rattle.std.specs.Prelude.{List, ◌++◌, ◌≡◌, refl, ℕ, ◌+◌, ◌*◌, ◌/◌, ◌≤◌, length}
-use Rattle.std.proofs.Common.{sym, ap, ◌∙◌, arith, leb-true, le-ltb}
+use Rattle.std.proofs.Common.{sym, ap, ◌∙◌, arith, leb-true, le-ltb, Ok}
 use Rattle.std.proofs.Math.Seq.{drop-append_seam}
 use Rattle.refusals.specs.declared.Refusal.{Refusal}
-use Rattle.refusals.specs.declared.Answer.{Answer}
 use Rattle.bits.specs.Bits.{bits_of_all, bytes_of}
 use Rattle.bits.specs.Reading.{Got, got, refused, answered, onward, onward_onward, ◌>>=◌, ended}
 use Rattle.table.specs.declared.Table.{Table}
@@ -19,18 +18,18 @@ use Rattle.roundtrip.proofs.WrittenTable.{packed_again}
 use Rattle.roundtrip.specs.WrittenLabels.{moved, same, block_moved}
 
 -- a reading that went through, so many bits further on
-went_through : (g : Got ℕ) (far : ℕ) (t : Table) → answered g ≡ Answer.Accepted
+went_through : (g : Got ℕ) (far : ℕ) (t : Table) → answered g ≡ Ok tt
     → (end : ℕ) × (onward (moved same far g) (λ a next. got t next) ≡ got t end)
 went_through (got a next) far t good = (far + next, refl)
 went_through (refused r) far t bad = not_accepted r bad
 
 -- what the writer accepts
 record Writable (t : Table) (block : List ℕ) : Type 0 where
-  table : table_fault t ≡ Answer.Accepted
-  labels : block_fault t block ≡ Answer.Accepted
+  table : table_fault t ≡ Ok tt
+  labels : block_fault t block ≡ Ok tt
   short : length (script_bytes t block) ≤ limits.script
 
-writable : (t : Table) (block : List ℕ) (room : ℕ) → writer_fault t block room ≡ Answer.Accepted → Writable t block
+writable : (t : Table) (block : List ℕ) (room : ℕ) → writer_fault t block room ≡ Ok tt → Writable t block
 unfolding writer_fault
 writable t block room good =
     let rest = accepted_second (table_fault t) _ good in
@@ -56,13 +55,13 @@ script_again t shape block good =
     )
 
 -- the same table
-pub table_again : (t : Table) → Shaped t → (block : List ℕ) (room : ℕ) → writer_fault t block room ≡ Answer.Accepted
-    → read_script (script_bytes t block) ≡ record { answer = Answer.Accepted; table = t }
+pub table_again : (t : Table) → Shaped t → (block : List ℕ) (room : ℕ) → writer_fault t block room ≡ Ok tt
+    → read_script (script_bytes t block) ≡ record { answer = Ok tt; table = t }
 unfolding read_script
 table_again t shape block room good = ap script_reply (script_again t shape block (writable t block room good)).1
 
 -- the same labels
-pub labels_again : (t : Table) → Shaped t → (block : List ℕ) (room : ℕ) → writer_fault t block room ≡ Answer.Accepted
+pub labels_again : (t : Table) → Shaped t → (block : List ℕ) (room : ℕ) → writer_fault t block room ≡ Ok tt
     → block_of (script_bytes t block) ≡ block
 unfolding block_of script_bytes
 labels_again t shape block room good =

@@ -1,12 +1,11 @@
 -- Every field of a table without fault holds its number.
-use Rattle.std.specs.Prelude.{Bool, true, false, cond, ◌≡◌, ℕ, zero, suc, ◌<◌, ◌≤◌, ◌^◌, ltb}
+use Rattle.std.specs.Prelude.{Bool, true, false, cond, ◌≡◌, ℕ, zero, suc, ◌<◌, ◌≤◌, ◌^◌, ltb, Ok}
 use mathlib.Core.List.{List, [], ◌∷◌, map}
 use native.Mathlib.Omega.{arith}
 use borrow.Author.Tests.{ltb-true}
 use Rattle.values.specs.declared.Number.{Number}
 use Rattle.values.specs.Numbers.{in_range}
 use Rattle.refusals.specs.declared.Refusal.{Refusal}
-use Rattle.refusals.specs.declared.Answer.{Answer}
 use Rattle.refusals.specs.Numbering.{unless}
 use Rattle.bits.specs.Bits.{Part}
 use Rattle.bits.specs.Holding.{Fitting}
@@ -65,7 +64,7 @@ operand_part o = part (width_of o) (field_of o)
 
 module _ (t : Table) (within : Within t) where
   -- an operand without fault
-  operand_fits : (k : ℕ) → k ≤ limits.entries → (o : Operand) → operand_fault t k o ≡ Answer.Accepted → (width_of o ≤ 48) × (field_of o < 2 ^ width_of o)
+  operand_fits : (k : ℕ) → k ≤ limits.entries → (o : Operand) → operand_fault t k o ≡ Ok tt → (width_of o ≤ 48) × (field_of o < 2 ^ width_of o)
   unfolding operand_fault
   operand_fits k h (entry s a) good =
       let early = unless_accepted (ltb a k) Refusal.Operand (accepted_first (unless (ltb a k) Refusal.Operand) _ good) in
@@ -76,7 +75,7 @@ module _ (t : Table) (within : Within t) where
   operand_fits k h (variable x) good = (omega arith, omega (arith, ltb-true x t.v (unless_accepted (ltb x t.v) Refusal.Operand good)))
   operand_fits k h (constant z) good = (omega arith, unsigned_lt z (unless_accepted (in_range z) Refusal.Range good))
 
-  operands_fit : (k : ℕ) → k ≤ limits.entries → (os : List Operand) → operands_fault t k os ≡ Answer.Accepted → Fitting (map operand_part os)
+  operands_fit : (k : ℕ) → k ≤ limits.entries → (os : List Operand) → operands_fault t k os ≡ Ok tt → Fitting (map operand_part os)
   unfolding operands_fault Fitting
   operands_fit k h [] good = tt
   operands_fit k h (o ∷ os) good =
@@ -84,7 +83,7 @@ module _ (t : Table) (within : Within t) where
       (this.0, (this.1, operands_fit k h os (accepted_second (operand_fault t k o) (operands_fault t k os) good)))
 
   -- an entry without fault
-  entry_fits : (k : ℕ) → k ≤ limits.entries → (e : Entry) → operands_fault t k (operands_of e) ≡ Answer.Accepted → Fitting (entry_parts e)
+  entry_fits : (k : ℕ) → k ≤ limits.entries → (e : Entry) → operands_fault t k (operands_of e) ≡ Ok tt → Fitting (entry_parts e)
   unfolding Fitting entry_parts
   entry_fits k h e good = (omega arith, (omega (arith, kind_lt e), operands_fit k h (operands_of e) good))
 
@@ -104,7 +103,7 @@ import_fits t i = (omega arith, (bit (is_event t i), tt))
     bit false = omega arith
 
 -- a variable's start
-number_fits : (y : Number) → number_fault y ≡ Answer.Accepted → Fitting (number_parts y)
+number_fits : (y : Number) → number_fault y ≡ Ok tt → Fitting (number_parts y)
 unfolding Fitting number_fault
 number_fits Number.Undefined good = (omega arith, (omega arith, (omega arith, (omega arith, tt))))
 number_fits (Number.Whole z) good = (omega arith, (omega arith, (omega arith, (unsigned_lt z (unless_accepted (in_range z) Refusal.Range good), tt))))

@@ -1,13 +1,11 @@
 -- The fields of a table, read again: its head, imports, variables and entries one after another.
 use Rattle.std.specs.Prelude.{Bool, true, false, cond, List, [], ◌∷◌, ◌++◌, ◌≡◌, refl, eqb, length}
-use Rattle.std.proofs.Common.{sym, ◌∙◌, add-zero, zero-add, arith}
+use Rattle.std.proofs.Common.{sym, ◌∙◌, add-zero, zero-add, arith, Ok, Some}
 use Rattle.std.proofs.Math.Path.{ap}
 use Prim.Native.Nat.{ℕ, zero, suc, ◌+◌, ◌*◌, ◌/◌, ◌<◌, ◌≤◌}
 use Rattle.values.specs.declared.Number.{Number}
 use Rattle.values.specs.Numbers.{in_range}
 use Rattle.refusals.specs.declared.Refusal.{Refusal}
-use Rattle.refusals.specs.declared.Answer.{Answer}
-use Rattle.bits.specs.declared.Field.{Field}
 use Rattle.bits.specs.Bits.{Part, field_at, bits_of_all, bytes_of, padding_at}
 use Rattle.bits.specs.Holding.{width_of_all, Holds}
 use Rattle.bits.specs.Reading.{got, ◌>>=◌, give, padding}
@@ -69,7 +67,7 @@ module _ (t : Table) (shape : Shaped t) (sound : Sound t) (s : List ℕ) (at : �
   imports_held held (suc left) i more = import_held held left i (omega arith) ∙ imports_held held left (suc i) (omega arith)
 
   -- one variable, whatever it starts with, and the others
-  number_held : (y : Number) → number_fault y ≡ Answer.Accepted → (left x here : ℕ) (so : Table) → Holds s here (number_parts y)
+  number_held : (y : Number) → number_fault y ≡ Ok tt → (left x here : ℕ) (so : Table) → Holds s here (number_parts y)
       → variables (suc left) x so s here ≡ variables left (suc x) (with_variable so x y) s (here + width_of_all (number_parts y))
   unfolding variables Holds width_of_all number_fault
   number_held Number.Undefined good left x here so held =
@@ -139,13 +137,13 @@ unfolding table_parts
 table_wide t = simp width_append (omega arith)
 
 -- zero bits up to a whole byte
-padding_held : (s : List ℕ) (at : ℕ) (t : Table) → field_at s at (padding_at at) ≡ Field.There 0
+padding_held : (s : List ℕ) (at : ℕ) (t : Table) → field_at s at (padding_at at) ≡ Some 0
     → (padding Refusal.Cut Refusal.Padding >>= λ zeros. give t) s at ≡ got t (at + padding_at at)
 padding_held s at t zeros = rw zeros
 
 -- bytes that hold the fields of a table, and zero bits up to a whole byte
 pub table_held : (t : Table) → Shaped t → Sound t → (s : List ℕ) → Holds s 0 (table_parts t)
-    → field_at s (width_of_all (table_parts t)) (padding_at (width_of_all (table_parts t))) ≡ Field.There 0
+    → field_at s (width_of_all (table_parts t)) (padding_at (width_of_all (table_parts t))) ≡ Some 0
     → packed_table s 0 ≡ got t (width_of_all (table_parts t) + padding_at (width_of_all (table_parts t)))
 unfolding packed_table table_parts
 table_held t shape sound s held zeros =

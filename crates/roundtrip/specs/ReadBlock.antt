@@ -1,5 +1,5 @@
 -- Labels read from a whole byte on are the same labels read from the rest of the bytes alone.
-use Rattle.std.specs.Prelude.{Bool, true, false, ◌&&◌, List, ◌≡◌, leb, take}
+use Rattle.std.specs.Prelude.{Bool, true, false, ◌&&◌, List, ◌≡◌, leb, take, Ok, Some, None}
 use Rattle.std.proofs.Math.Bool.{cond}
 use Rattle.std.proofs.Math.Path.{refl, ap}
 use Rattle.std.proofs.Common.{sym, ◌∙◌, get_or-drop}
@@ -10,9 +10,7 @@ use Rattle.std.proofs.Math.ListN.{length, get_or, drop, length-drop}
 use Rattle.std.proofs.Math.Seq.{drop-drop}
 use borrow.Author.Tests.{leb-true, leb-false, le-leb, lt-leb, eq-eqb}
 use Rattle.refusals.specs.declared.Refusal.{Refusal}
-use Rattle.refusals.specs.declared.Answer.{Answer}
 use Rattle.refusals.specs.Numbering.{unless}
-use Rattle.bits.specs.declared.Field.{Field}
 use Rattle.bits.specs.Bits.{number_from, bit_at, bits_at, field_at, wholly, widest}
 use Rattle.bits.specs.Reading.{Got, got, refused, judged}
 use Rattle.table.specs.declared.Table.{Table}
@@ -69,8 +67,8 @@ module _ (s : List ℕ) (m : ℕ) (within : m ≤ length s) where
   field_dropped : (at w : ℕ) → field_at (drop m s) at w ≡ field_at s (8 * m + at) w
   unfolding field_at bits_at
   field_dropped at w =
-      ap (λ (b : Bool). cond (leb w widest && b) (Field.There (number_from (bit_at (drop m s)) at w)) Field.Missing) (wholly_dropped at w)
-      ∙ ap (λ (v : ℕ). cond (leb w widest && wholly s (8 * m + at) w) (Field.There v) Field.Missing)
+      ap (λ (b : Bool). cond (leb w widest && b) (Some (number_from (bit_at (drop m s)) at w)) None) (wholly_dropped at w)
+      ∙ ap (λ (v : ℕ). cond (leb w widest && wholly s (8 * m + at) w) (Some v) None)
       (number_later (bit_at (drop m s)) (bit_at s) (8 * m) at w bit_dropped)
 
   text_dropped : (size at : ℕ) → Gives (text size s (8 * m + at)) (λ span next. Before (8 * m) (text size (drop m s) at) next)
@@ -98,7 +96,7 @@ module _ (s : List ℕ) (m : ℕ) (within : m ≤ length s) where
 
   -- "the block": accepted where reading the labels goes to the end of the bytes
   pub block_sound : (t : Table) (count : ℕ) → labels (labels_before t t.n) s (8 * m) ≡ got count (8 * length s)
-      → block_fault t (drop m s) ≡ Answer.Accepted
+      → block_fault t (drop m s) ≡ Ok tt
   unfolding block_fault
   block_sound t count e =
       let from_start : labels (labels_before t t.n) s (8 * m + 0) ≡ got count (8 * length s) = ap (labels (labels_before t t.n) s) (omega arith) ∙ e in

@@ -1,8 +1,7 @@
 -- Bits and numbers of 48 bits, read: they are in range, and are packed as the same fields.
-use Rattle.std.specs.Prelude.{Bool, true, false, cond, ◌≡◌, refl, ℕ, zero, suc, ◌-◌, ◌^◌, ◌<◌, ltb, eqb, pos, negsuc}
+use Rattle.std.specs.Prelude.{Bool, true, false, cond, ◌≡◌, refl, ℕ, zero, suc, ◌-◌, ◌^◌, ◌<◌, ltb, eqb, pos, negsuc, Ok}
 use Rattle.std.proofs.Common.{arith, lt-ltb, ltb-false}
 use Rattle.values.specs.Numbers.{in_range}
-use Rattle.refusals.specs.declared.Answer.{Answer}
 use Rattle.values.specs.declared.Number.{Number}
 use Rattle.bits.specs.Twos.{signed, unsigned}
 use Rattle.table.specs.Faults.{number_fault}
@@ -33,10 +32,10 @@ bit_again (suc zero) h = refl
 bit_again (suc (suc b)) h = absurd (omega arith)
 
 -- a variable's start is no fault
-pub starting_sound : (bit v : ℕ) → v < 2 ^ 48 → number_fault (starting bit v) ≡ Answer.Accepted
+pub starting_sound : (bit v : ℕ) → v < 2 ^ 48 → number_fault (starting bit v) ≡ Ok tt
 unfolding number_fault
 starting_sound bit v h = by_test (eqb bit 1)
   where
-    by_test : (b : Bool) → number_fault (cond b (Number.Whole (signed v)) Number.Undefined) ≡ Answer.Accepted
+    by_test : (b : Bool) → number_fault (cond b (Number.Whole (signed v)) Number.Undefined) ≡ Ok tt
     by_test true = rw (signed_in_range v h)
     by_test false = refl

@@ -1,7 +1,6 @@
 -- Fields that stand in bytes from one bit up to another.
-use Rattle.std.specs.Prelude.{List, [], ◌∷◌, ◌++◌, ◌≡◌, ℕ, ◌+◌}
+use Rattle.std.specs.Prelude.{List, [], ◌∷◌, ◌++◌, ◌≡◌, ℕ, ◌+◌, Some}
 use Rattle.std.proofs.Common.{arith}
-use Rattle.bits.specs.declared.Field.{Field}
 use Rattle.bits.specs.Bits.{Part, field_at}
 use Rattle.bits.specs.Holding.{width_of_all, Holds}
 use Rattle.script.specs.Writer.{part}
@@ -18,7 +17,7 @@ unfolding Holds width_of_all
 stands_none = record { held = tt; ends = omega arith }
 
 -- one field and then others
-pub stands_more : {s : List ℕ} {at w v next : ℕ} {ps : List Part} → field_at s at w ≡ Field.There v → Stands s (at + w) next ps
+pub stands_more : {s : List ℕ} {at w v next : ℕ} {ps : List Part} → field_at s at w ≡ Some v → Stands s (at + w) next ps
     → Stands s at next (part w v ∷ ps)
 unfolding Holds width_of_all
 stands_more there rest = record { held = (there, rest.held); ends = omega (arith, rest.ends) }

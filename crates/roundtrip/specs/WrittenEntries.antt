@@ -1,10 +1,9 @@
 -- An entry that was written is read again: the twenty-five kinds.
-use Rattle.std.specs.Prelude.{true, List, [], ◌∷◌, ◌≡◌, ℕ, ◌+◌, ltb, ℤ, get_or}
+use Rattle.std.specs.Prelude.{true, List, [], ◌∷◌, ◌≡◌, ℕ, ◌+◌, ltb, ℤ, get_or, Ok}
 use Rattle.std.proofs.Math.Path.{refl, ap}
 use Rattle.std.proofs.Common.{◌∙◌, arith}
 use Rattle.values.specs.Numbers.{in_range}
 use Rattle.refusals.specs.declared.Refusal.{Refusal}
-use Rattle.refusals.specs.declared.Answer.{Answer}
 use Rattle.refusals.specs.Numbering.{unless, and_then}
 use Rattle.bits.specs.Twos.{signed, unsigned}
 use Rattle.bits.specs.Holding.{width_of_all, Holds}
@@ -29,52 +28,52 @@ module _ (t : Table) (k : ℕ) (s : List ℕ) (at : ℕ) where
 
   -- one operand
   one_row : (kind : ℕ) (o : ℕ → Operand) (make : ℕ → Entry) (a : ℕ) → ltb kind 25 ≡ true → get_or (kinds t k) kind (bare Clock) ≡ one t k o make
-      → Holds s at (part 5 kind ∷ part (width_of (o 0)) a ∷ []) → and_then (operand_fault t k (o a)) Answer.Accepted ≡ Answer.Accepted
+      → Holds s at (part 5 kind ∷ part (width_of (o 0)) a ∷ []) → and_then (operand_fault t k (o a)) (Ok tt) ≡ Ok tt
       → entry t k s at ≡ got (make a) (at + width_of_all (part 5 kind ∷ part (width_of (o 0)) a ∷ []))
   unfolding Holds width_of_all entry operand
   one_row kind o make a known is held good =
-      rw (held.0, known, is, held.1.0, accepted_first (operand_fault t k (o a)) Answer.Accepted good) (ap (got (make a)) (omega arith))
+      rw (held.0, known, is, held.1.0, accepted_first (operand_fault t k (o a)) (Ok tt) good) (ap (got (make a)) (omega arith))
 
   -- two
   two_row : (kind : ℕ) (o p : ℕ → Operand) (make : ℕ → ℕ → Entry) (a b : ℕ) → ltb kind 25 ≡ true
       → get_or (kinds t k) kind (bare Clock) ≡ two t k o p make → Holds s at (part 5 kind ∷ part (width_of (o 0)) a ∷ part (width_of (p 0)) b ∷ [])
-      → and_then (operand_fault t k (o a)) (and_then (operand_fault t k (p b)) Answer.Accepted) ≡ Answer.Accepted
+      → and_then (operand_fault t k (o a)) (and_then (operand_fault t k (p b)) (Ok tt)) ≡ Ok tt
       → entry t k s at ≡ got (make a b) (at + width_of_all (part 5 kind ∷ part (width_of (o 0)) a ∷ part (width_of (p 0)) b ∷ []))
   unfolding Holds width_of_all entry operand
   two_row kind o p make a b known is held good =
-      let first = accepted_first (operand_fault t k (o a)) (and_then (operand_fault t k (p b)) Answer.Accepted) good in
-      let rest = accepted_second (operand_fault t k (o a)) (and_then (operand_fault t k (p b)) Answer.Accepted) good in
-      rw (held.0, known, is, held.1.0, first, held.1.1.0, accepted_first (operand_fault t k (p b)) Answer.Accepted rest)
+      let first = accepted_first (operand_fault t k (o a)) (and_then (operand_fault t k (p b)) (Ok tt)) good in
+      let rest = accepted_second (operand_fault t k (o a)) (and_then (operand_fault t k (p b)) (Ok tt)) good in
+      rw (held.0, known, is, held.1.0, first, held.1.1.0, accepted_first (operand_fault t k (p b)) (Ok tt) rest)
       (ap (got (make a b)) (omega arith))
 
   -- three
   three_row : (kind : ℕ) (o p r : ℕ → Operand) (make : ℕ → ℕ → ℕ → Entry) (a b c : ℕ) → ltb kind 25 ≡ true
       → get_or (kinds t k) kind (bare Clock) ≡ three t k o p r make
       → Holds s at (part 5 kind ∷ part (width_of (o 0)) a ∷ part (width_of (p 0)) b ∷ part (width_of (r 0)) c ∷ [])
-      → and_then (operand_fault t k (o a)) (and_then (operand_fault t k (p b)) (and_then (operand_fault t k (r c)) Answer.Accepted)) ≡ Answer.Accepted
+      → and_then (operand_fault t k (o a)) (and_then (operand_fault t k (p b)) (and_then (operand_fault t k (r c)) (Ok tt))) ≡ Ok tt
       → entry t k s at
       ≡ got (make a b c) (at + width_of_all (part 5 kind ∷ part (width_of (o 0)) a ∷ part (width_of (p 0)) b ∷ part (width_of (r 0)) c ∷ []))
   unfolding Holds width_of_all entry operand
   three_row kind o p r make a b c known is held good =
-      let last = and_then (operand_fault t k (r c)) Answer.Accepted in
+      let last = and_then (operand_fault t k (r c)) (Ok tt) in
       let first = accepted_first (operand_fault t k (o a)) (and_then (operand_fault t k (p b)) last) good in
       let rest = accepted_second (operand_fault t k (o a)) (and_then (operand_fault t k (p b)) last) good in
       let second = accepted_first (operand_fault t k (p b)) last rest in
-      let third = accepted_first (operand_fault t k (r c)) Answer.Accepted (accepted_second (operand_fault t k (p b)) last rest) in
+      let third = accepted_first (operand_fault t k (r c)) (Ok tt) (accepted_second (operand_fault t k (p b)) last rest) in
       rw (held.0, known, is, held.1.0, first, held.1.1.0, second, held.1.1.1.0, third) (ap (got (make a b c)) (omega arith))
 
   -- a constant: 48 bits for a number in range
   constant_row : (z : ℤ) → Holds s at (part 5 15 ∷ part 48 (unsigned z) ∷ [])
-      → and_then (operand_fault t k (constant z)) Answer.Accepted ≡ Answer.Accepted
+      → and_then (operand_fault t k (constant z)) (Ok tt) ≡ Ok tt
       → entry t k s at ≡ got (Constant z) (at + width_of_all (part 5 15 ∷ part 48 (unsigned z) ∷ []))
   unfolding operand_fault kinds
   constant_row z held good =
-      let again = signed_unsigned z (unless_accepted (in_range z) Refusal.Range (accepted_first (unless (in_range z) Refusal.Range) Answer.Accepted good)) in
+      let again = signed_unsigned z (unless_accepted (in_range z) Refusal.Range (accepted_first (unless (in_range z) Refusal.Range) (Ok tt) good)) in
       one_row 15 constant_field (λ v. Constant (signed v)) (unsigned z) refl refl held (rw again good)
       ∙ ap (λ (y : ℤ). got (Constant y) (at + width_of_all (part 5 15 ∷ part 48 (unsigned z) ∷ []))) again
 
   -- "An entry is one of twenty-five kinds, each with its own operands": a written one is read again
-  pub entry_held : (e : Entry) → Holds s at (entry_parts e) → operands_fault t k (operands_of e) ≡ Answer.Accepted
+  pub entry_held : (e : Entry) → Holds s at (entry_parts e) → operands_fault t k (operands_of e) ≡ Ok tt
       → entry t k s at ≡ got e (at + width_of_all (entry_parts e))
   unfolding entry_parts kind_of operands_of operands_fault kinds
   entry_held (ImportedCondition i) held good = one_row 0 condition_import ImportedCondition i refl refl held good

@@ -1,5 +1,5 @@
 -- Labels that stand after whole bytes are read as they are by themselves.
-use Rattle.std.specs.Prelude.{Bool, true, false, cond, List, ◌++◌, ◌≡◌, leb, eqb, take, drop}
+use Rattle.std.specs.Prelude.{Bool, true, false, cond, List, ◌++◌, ◌≡◌, leb, eqb, take, drop, Ok, Err, Some, None, Option, ℕ}
 use Rattle.std.proofs.Math.Path.{refl, ap}
 use Rattle.std.proofs.Common.{sym, ◌∙◌, add-zero, leb-true, le-leb, eqb-true, eq-eqb, length-append}
 use Prim.Native.Nat.{ℕ, zero, suc, ◌+◌, ◌*◌, ◌/◌, ◌%◌}
@@ -8,9 +8,8 @@ use native.Mathlib.Omega.{arith}
 use Rattle.std.proofs.Math.ListN.{length}
 use Rattle.std.proofs.Math.Seq.{get_or-append-add, drop-append-add}
 use Rattle.refusals.specs.declared.Refusal.{Refusal}
-use Rattle.refusals.specs.declared.Answer.{Answer}
+use Rattle.refusals.specs.Answers.{Answer}
 use Rattle.refusals.specs.Numbering.{unless}
-use Rattle.bits.specs.declared.Field.{Field}
 use Rattle.bits.specs.Bits.{number_from, bit_at, bits_at, wholly, field_at}
 use Rattle.bits.specs.Reading.{Got, got, refused, onward, ◌>>=◌, judged, taken, field, ended}
 use Rattle.table.specs.Limits.{limits}
@@ -40,8 +39,8 @@ span_after far span = record { from = far + span.from; size = span.size }
 -- judged, and moved
 judged_moved : {A : Type 0} (f : A → A) (far : ℕ) (answer : Answer) (a : A) (next : ℕ)
     → judged answer (f a) (far + next) ≡ moved f far (judged answer a next)
-judged_moved f far Answer.Accepted a next = refl
-judged_moved f far (Answer.Refused r) a next = refl
+judged_moved f far (Ok _) a next = refl
+judged_moved f far (Err r) a next = refl
 
 -- tested, and moved
 tested_moved : {A : Type 0} (f : A → A) (far : ℕ) (b : Bool) (r : Refusal) (here there : Got A) → there ≡ moved f far here
@@ -50,9 +49,9 @@ tested_moved f far true r here there e = e
 tested_moved f far false r here there e = refl
 
 -- taken, and moved
-taken_moved : (cut : Refusal) (judge : ℕ → Answer) (far next : ℕ) (f : Field) → taken cut judge (far + next) f ≡ moved same far (taken cut judge next f)
-taken_moved cut judge far next Field.Missing = refl
-taken_moved cut judge far next (Field.There v) = judged_moved same far (judge v) v next
+taken_moved : (cut : Refusal) (judge : ℕ → Answer) (far next : ℕ) (f : Option ℕ) → taken cut judge (far + next) f ≡ moved same far (taken cut judge next f)
+taken_moved cut judge far next None = refl
+taken_moved cut judge far next (Some v) = judged_moved same far (judge v) v next
 
 -- one reading and then another, each moved
 onward_moved : {A B : Type 0} (f : A → A) (g : B → B) (far : ℕ) (first : Got A) (then after : A → ℕ → Got B)

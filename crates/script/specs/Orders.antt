@@ -1,8 +1,6 @@
 -- The order of refusals in reading and writing, and the recorded script there and back.
-use Rattle.std.specs.Prelude.{true, false, List, [], ◌∷◌, ◌≡◌, refl, ℕ, leb, ltb, eqb, length}
+use Rattle.std.specs.Prelude.{true, false, List, [], ◌∷◌, ◌≡◌, refl, ℕ, leb, ltb, eqb, length, Ok, Err, Some}
 use Rattle.refusals.specs.declared.Refusal.{Refusal}
-use Rattle.refusals.specs.declared.Answer.{Answer}
-use Rattle.bits.specs.declared.Field.{Field}
 use Rattle.bits.specs.Bits.{field_at, the_bits}
 use Rattle.bits.specs.Twos.{the_twos}
 use Rattle.bits.specs.Reading.{got, refused, stops}
@@ -24,24 +22,24 @@ unfolding whole_script packed_table
 header_first s r e = rw e
 
 -- the format number is judged before anything after it is taken
-pub format_first : (s : List ℕ) (f : ℕ) → field_at s 0 8 ≡ Field.There f → eqb f 1 ≡ false → whole_script s 0 ≡ refused Refusal.Format
+pub format_first : (s : List ℕ) (f : ℕ) → field_at s 0 8 ≡ Some f → eqb f 1 ≡ false → whole_script s 0 ≡ refused Refusal.Format
 unfolding header
 format_first s f there other = header_first s Refusal.Format (rw there (stops (eqb f 1) Refusal.Format f 8 _ other))
 
 -- the writer looks at the table before the block, and at the block before the room
-pub table_first : (t : Table) (block : List ℕ) (room : ℕ) (r : Refusal) → table_fault t ≡ Answer.Refused r → writer_fault t block room ≡ Answer.Refused r
+pub table_first : (t : Table) (block : List ℕ) (room : ℕ) (r : Refusal) → table_fault t ≡ Err r → writer_fault t block room ≡ Err r
 unfolding writer_fault
 table_first t block room r bad = rw bad
 
 -- the block comes next
-pub block_next : (t : Table) (block : List ℕ) (room : ℕ) (r : Refusal) → table_fault t ≡ Answer.Accepted → block_fault t block ≡ Answer.Refused r
-    → writer_fault t block room ≡ Answer.Refused r
+pub block_next : (t : Table) (block : List ℕ) (room : ℕ) (r : Refusal) → table_fault t ≡ Ok tt → block_fault t block ≡ Err r
+    → writer_fault t block room ≡ Err r
 unfolding writer_fault
 block_next t block room r good bad = rw (good, bad)
 
 -- "then 1, then 12"
-pub length_before_room : (t : Table) (block : List ℕ) (room : ℕ) → table_fault t ≡ Answer.Accepted → block_fault t block ≡ Answer.Accepted
-    → leb (length (script_bytes t block)) limits.script ≡ false → writer_fault t block room ≡ Answer.Refused Refusal.TooLong
+pub length_before_room : (t : Table) (block : List ℕ) (room : ℕ) → table_fault t ≡ Ok tt → block_fault t block ≡ Ok tt
+    → leb (length (script_bytes t block)) limits.script ≡ false → writer_fault t block room ≡ Err Refusal.TooLong
 unfolding writer_fault
 length_before_room t block room good fine long = rw (good, fine, long)
 
@@ -63,6 +61,6 @@ unfolding the_bits the_twos the_faults the_reader
 recorded_read = (refl, refl)
 
 -- and written as the same bytes
-pub recorded_written : (script_bytes recorded_table recorded_block ≡ recorded_script) × (writer_fault recorded_table recorded_block 15 ≡ Answer.Accepted)
+pub recorded_written : (script_bytes recorded_table recorded_block ≡ recorded_script) × (writer_fault recorded_table recorded_block 15 ≡ Ok tt)
 unfolding the_bits the_twos the_faults the_reader the_writer
 recorded_written = (refl, refl)

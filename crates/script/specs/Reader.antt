@@ -1,8 +1,7 @@
 -- "The script, bit by bit", read from front to back.
-use Rattle.std.specs.Prelude.{Bool, cond, ◌&&◌, ◌||◌, List, [], ◌∷◌, ℕ, zero, suc, ◌/◌, leb, ltb, eqb, length, get_or, set, take, drop}
+use Rattle.std.specs.Prelude.{Bool, cond, ◌&&◌, ◌||◌, List, [], ◌∷◌, ℕ, zero, suc, ◌/◌, leb, ltb, eqb, length, get_or, set, take, drop, Ok, Err}
 use Rattle.values.specs.declared.Number.{Number}
 use Rattle.refusals.specs.declared.Refusal.{Refusal}
-use Rattle.refusals.specs.declared.Answer.{Answer}
 use Rattle.refusals.specs.Numbering.{unless}
 use Rattle.bits.specs.Twos.{signed}
 use Rattle.bits.specs.Reading.{Got, got, refused, Reading, give, ◌>>=◌, field, whatever, padding, ended}
@@ -144,8 +143,8 @@ script_of s = cond (ltb limits.script (length s)) (refused Refusal.TooLong) (who
 
 -- "A refused script returns the empty table"
 abbrev pub script_reply : Got Table → Script
-script_reply (got t end) = record { answer = Answer.Accepted; table = t }
-script_reply (refused r) = record { answer = Answer.Refused r; table = empty_table }
+script_reply (got t end) = record { answer = Ok tt; table = t }
+script_reply (refused r) = record { answer = Err r; table = empty_table }
 
 -- what the reader answers to a string of bytes
 unfoldable pub read_script : List ℕ → Script
@@ -153,7 +152,7 @@ read_script s = script_reply (script_of s)
 
 -- "refused ..., the part is empty"
 abbrev pub no_label : Refusal → Label
-no_label r = record { answer = Answer.Refused r; span = record { from = 0; size = 0 } }
+no_label r = record { answer = Err r; span = record { from = 0; size = 0 } }
 
 -- where the label of entry k stands, in a script that is accepted
 unfoldable pub label_span : ℕ → Reading Span
@@ -164,7 +163,7 @@ label_span k = do
 
 -- where it was found, or the refusal
 abbrev pub label_reply : Got Span → Label
-label_reply (got span next) = record { answer = Answer.Accepted; span = span }
+label_reply (got span next) = record { answer = Ok tt; span = span }
 label_reply (refused r) = no_label r
 
 -- "30: no such entry, or, for a label, not an alarm or property"

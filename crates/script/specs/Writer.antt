@@ -1,8 +1,8 @@
 -- The writer: a table and a block of labels as stored, packed as a script.
-use Rattle.std.specs.Prelude.{cond, List, [], ◌∷◌, ◌++◌, map, ℕ, zero, suc, leb, length, drop}
+use Rattle.std.specs.Prelude.{cond, List, [], ◌∷◌, ◌++◌, map, ℕ, zero, suc, leb, length, drop, Ok, Err}
 use Rattle.values.specs.declared.Number.{Number}
 use Rattle.refusals.specs.declared.Refusal.{Refusal}
-use Rattle.refusals.specs.declared.Answer.{Answer}
+use Rattle.refusals.specs.Answers.{Answer}
 use Rattle.refusals.specs.Numbering.{unless, and_then}
 use Rattle.bits.specs.Bits.{Part, bits_of_all, bytes_of}
 use Rattle.bits.specs.Twos.{unsigned}
@@ -69,13 +69,13 @@ writer_fault t block room =
 
 -- how many bytes are written
 abbrev pub written_reply : Answer → ℕ → Written
-written_reply Answer.Accepted size = record { answer = Answer.Accepted; size = size }
-written_reply (Answer.Refused r) size = record { answer = Answer.Refused r; size = 0 }
+written_reply (Ok _) size = record { answer = Ok tt; size = size }
+written_reply (Err r) size = record { answer = Err r; size = 0 }
 
 -- "An accepted write fills the first bytes; all later bytes of the destination stay"; a refused write changes no byte
 abbrev pub written_bytes : Answer → List ℕ → List ℕ → List ℕ
-written_bytes Answer.Accepted script destination = script ++ drop (length script) destination
-written_bytes (Answer.Refused r) script destination = destination
+written_bytes (Ok _) script destination = script ++ drop (length script) destination
+written_bytes (Err r) script destination = destination
 
 -- what the writer answers to a table and a block of labels, given a destination
 unfoldable pub write_script : Table → List ℕ → List ℕ → Written

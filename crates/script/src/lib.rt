@@ -1,13 +1,13 @@
 // Scripts in and out: what reading, writing and asking for a label answer.
 #![tactic(auto)]
 
-use refusals::Answer;
+use refusals::Refusal;
 use table::Table;
 
 // A script that was read: its table, or the refusal and the empty table.
 #[derive(Clone, Copy)]
 pub struct Script {
-    pub answer: Answer,
+    pub answer: Result<(), Refusal>,
     pub table: Table,
 }
 
@@ -21,13 +21,13 @@ pub struct Span {
 // The label of an entry: where its text stands, or the refusal and an empty part.
 #[derive(Clone, Copy)]
 pub struct Label {
-    pub answer: Answer,
+    pub answer: Result<(), Refusal>,
     pub span: Span,
 }
 
 // A script that was written: how many bytes it has, or the refusal and 0.
 #[derive(Clone, Copy)]
 pub struct Written {
-    pub answer: Answer,
+    pub answer: Result<(), Refusal>,
     pub size: usize,
 }

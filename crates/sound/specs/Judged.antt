@@ -1,8 +1,8 @@
 -- An operand judged by what is lent of a table: the sorts of its entries as numbers, which imports are events, and its counts.
-use Rattle.std.specs.Prelude.{Bool, false, cond, ◌&&◌, List, ℕ, eqb, leb, ltb, pos, get_or}
+use Rattle.std.specs.Prelude.{Bool, false, cond, ◌&&◌, List, ℕ, eqb, leb, ltb, pos, get_or, Ok}
 use Rattle.values.specs.Numbers.{in_range, eq_z}
 use Rattle.refusals.specs.declared.Refusal.{Refusal}
-use Rattle.refusals.specs.declared.Answer.{Answer}
+use Rattle.refusals.specs.Answers.{Answer}
 use Rattle.refusals.specs.Numbering.{unless, and_then}
 use Rattle.table.specs.declared.Sort.{Sort}
 use Rattle.table.specs.declared.Entry.{Entry}
@@ -22,7 +22,7 @@ placed there have s = and_then (unless there Refusal.Operand) (unless (eqb have 
 
 -- "7: operand not an earlier entry, import ≥ q, or variable ≥ v"; "8: operand or import of the wrong sort"; "13: number outside 48 bits"
 unfoldable pub judged_by : List ℕ → List Bool → ℕ → ℕ → ℕ → Operand → Answer
-judged_by sorts events q v k Operand.Nothing = Answer.Accepted
+judged_by sorts events q v k Operand.Nothing = Ok tt
 judged_by sorts events q v k (Operand.Entry s a) = placed (ltb a k) (get_or sorts a 0) s
 judged_by sorts events q v k (Operand.Imported s i) = placed (ltb i q) (import_number events i) s
 judged_by sorts events q v k (Operand.Variable x) = unless (ltb x v) Refusal.Operand

@@ -1,12 +1,12 @@
 -- Laws of judged operands: what is lent of a table judges as the table does, and an entry's three operands judged in order give its fault.
-use Rattle.std.specs.Prelude.{Bool, true, false, List, [], ◌∷◌, ◌++◌, ◌≡◌, ℕ, ◌+◌, ◌<◌, eqb, ltb, set, length}
+use Rattle.std.specs.Prelude.{Bool, true, false, List, [], ◌∷◌, ◌++◌, ◌≡◌, ℕ, ◌+◌, ◌<◌, eqb, ltb, set, length, Ok, Err}
 use Rattle.std.proofs.Math.Path.{refl, sym, ap}
 use Rattle.std.proofs.Common.{◌∙◌, arith, get_or-set_same, ltb-true}
 use Rattle.std.proofs.Math.ListN.{get_or}
 use Rattle.std.proofs.Math.Seq.{get_or-set_other}
 use borrow.Author.Count.{below_more}
 use Rattle.refusals.specs.declared.Refusal.{Refusal}
-use Rattle.refusals.specs.declared.Answer.{Answer}
+use Rattle.refusals.specs.Answers.{Answer}
 use Rattle.refusals.specs.Numbering.{unless, and_then}
 use Rattle.table.specs.declared.Sort.{Sort}
 use Rattle.table.specs.declared.Entry.{Entry}
@@ -29,13 +29,13 @@ Sorts t k sorts = (a : ℕ) → a < k → get_or sorts a 0 ≡ sort_number (sort
 abbrev pub entry_fault : Table → ℕ → Answer
 entry_fault t k = operands_fault t k (operands_of (entry_at t k))
 
-then_accepted : (a : Answer) → and_then a Answer.Accepted ≡ a
-then_accepted Answer.Accepted = refl
-then_accepted (Answer.Refused r) = refl
+then_accepted : (a : Answer) → and_then a (Ok tt) ≡ a
+then_accepted (Ok _) = refl
+then_accepted (Err r) = refl
 
 then_then : (a b c : Answer) → and_then (and_then a b) c ≡ and_then a (and_then b c)
-then_then Answer.Accepted b c = refl
-then_then (Answer.Refused r) b c = refl
+then_then (Ok _) b c = refl
+then_then (Err r) b c = refl
 
 -- the sort is looked at only where the operand is there
 placed_same : (there : Bool) (m n : ℕ) (s : Sort) → (there ≡ true → m ≡ n) → placed there m s ≡ placed there n s

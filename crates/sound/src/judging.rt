@@ -5,19 +5,15 @@ ghost use Rattle.table.specs.Kinds.{sort_number};
 ghost use Rattle.sound.specs.Judged.{judged_by, import_number, placed};
 
 use kinds::Operand;
-use refusals::{Answer, Refusal};
+use refusals::Refusal;
 use table::Sort;
 use values::Number;
 
 // Accepted if so, else that refusal.
-pub(crate) fn unless(so: bool, r: Refusal) -> Answer
+pub(crate) fn unless(so: bool, r: Refusal) -> Result<(), Refusal>
     ensures { result ≡ unless so r }
 {
-    if so {
-        Answer::Accepted
-    } else {
-        Answer::Refused(r)
-    }
+    if so { Ok(()) } else { Err(r) }
 }
 
 // Sorts as numbers.
@@ -52,22 +48,29 @@ fn import_sort(events: &[bool], i: usize) -> u8
 }
 
 // "7: operand not an earlier entry ...; 8: operand ... of the wrong sort", 7 before 8, and the same for imports.
-fn placed(there: bool, have: u8, s: Sort) -> Answer
+fn placed(there: bool, have: u8, s: Sort) -> Result<(), Refusal>
     ensures { result ≡ placed there have s }
 {
     if there {
         unless(have == sort_number(s), Refusal::Sort)
     } else {
-        Answer::Refused(Refusal::Operand)
+        Err(Refusal::Operand)
     }
 }
 
 // What is wrong with an operand of entry k.
-pub fn judge(o: Operand, k: usize, q: usize, v: usize, sorts: &[u8], events: &[bool]) -> Answer
+pub fn judge(
+    o: Operand,
+    k: usize,
+    q: usize,
+    v: usize,
+    sorts: &[u8],
+    events: &[bool],
+) -> Result<(), Refusal>
     ensures { result ≡ judged_by sorts.now events.now q v k o }
 {
     match o {
-        Operand::Nothing => Answer::Accepted,
+        Operand::Nothing => Ok(()),
         Operand::Entry(s, a) => placed((a as usize) < k, sort_at(sorts, a as usize), s),
         Operand::Imported(s, i) => placed((i as usize) < q, import_sort(events, i as usize), s),
         Operand::Variable(x) => unless((x as usize) < v, Refusal::Operand),

@@ -15,21 +15,21 @@ ghost use Rattle.sound.specs.Judged.{apart_judged};
 use crate::slots::limits_fault;
 pub use judging::judge;
 use kinds::{Apart, apart_of, sort_of_kind};
-use refusals::{Answer, Refusal};
+use refusals::Refusal;
 use table::{Table, VariableSlot};
 
 // "the first fault decides"
-fn first(a: Answer, b: Answer) -> Answer
+fn first(a: Result<(), Refusal>, b: Result<(), Refusal>) -> Result<(), Refusal>
     ensures { result ≡ and_then a b }
 {
     match a {
-        Answer::Accepted => b,
-        Answer::Refused(r) => Answer::Refused(r),
+        Ok(()) => b,
+        Err(r) => Err(r),
     }
 }
 
 // "variables (13; ...)"
-fn variables_fault(variables: [VariableSlot; Table::VARIABLES], v: usize) -> Answer
+fn variables_fault(variables: [VariableSlot; Table::VARIABLES], v: usize) -> Result<(), Refusal>
     requires { v ≤ limits.variables }
     ensures { result ≡ first_fault v (λ x. number_fault (number_at variables x)) }
 {
@@ -38,11 +38,11 @@ fn variables_fault(variables: [VariableSlot; Table::VARIABLES], v: usize) -> Ans
         let slot = variables[x];
         let number = slot.number;
         if !number.in_range() {
-            return Answer::Refused(Refusal::Range);
+            return Err(Refusal::Range);
         }
         x += 1;
     }
-    Answer::Accepted
+    Ok(())
 }
 
 // An entry's three operands, judged in order.
@@ -53,7 +53,7 @@ fn operands_fault(
     v: usize,
     sorts: &[u8],
     events: &[bool],
-) -> Answer
+) -> Result<(), Refusal>
     ensures { result ≡ apart_judged sorts.now events.now q v k parts }
 {
     let one = parts.first;
@@ -69,7 +69,7 @@ fn operands_fault(
 }
 
 // "entries in order (7, 8, 13)"; the sorts of the entries passed are kept as numbers.
-fn entries_fault(t: Table) -> Answer
+fn entries_fault(t: Table) -> Result<(), Refusal>
     requires { t.n ≤ limits.entries }
     ensures { result ≡ first_fault t.n (λ k. operands_fault t k (operands_of (entry_at t k))) }
 {
@@ -82,26 +82,26 @@ fn entries_fault(t: Table) -> Answer
         let e = slot.entry;
         let parts = apart_of(e);
         match operands_fault(parts, k, t.q, t.v, &sorts, &events) {
-            Answer::Accepted => {}
-            Answer::Refused(r) => {
-                return Answer::Refused(r);
+            Ok(()) => {}
+            Err(r) => {
+                return Err(r);
             }
         }
         sorts[k] = sort_of_kind(parts.kind);
         k += 1;
     }
-    Answer::Accepted
+    Ok(())
 }
 
 // "it checks 4, then variables (13; ...), entries in order (7, 8, 13)"
-pub fn fault(t: Table) -> Answer
+pub fn fault(t: Table) -> Result<(), Refusal>
     ensures { result ≡ table_fault t }
 {
     match limits_fault(t) {
-        Answer::Accepted => {
+        Ok(()) => {
             let variables = t.variables;
             first(variables_fault(variables, t.v), entries_fault(t))
         }
-        Answer::Refused(r) => Answer::Refused(r),
+        Err(r) => Err(r),
     }
 }

@@ -8,7 +8,7 @@ ghost use Rattle.sound.specs.Judged.{counts_kept, is_zero, slot_entry};
 
 use crate::judging::unless;
 use kinds::{Operand, apart_of};
-use refusals::{Answer, Refusal};
+use refusals::Refusal;
 use table::{Entry, EntrySlot, Table, VariableSlot};
 use values::Number;
 
@@ -104,19 +104,19 @@ fn counts_kept(n: usize, q: usize, v: usize) -> bool
 }
 
 // "4: n, q or v outside its limits ...; in the writer, also an unused slot not as above"
-pub(crate) fn limits_fault(t: Table) -> Answer
+pub(crate) fn limits_fault(t: Table) -> Result<(), Refusal>
     ensures { result ≡ limits_fault t }
 {
     if !counts_kept(t.n, t.q, t.v) {
-        return Answer::Refused(Refusal::TableLimits);
+        return Err(Refusal::TableLimits);
     }
     let entries = t.entries;
     if !entries_unused(entries, t.n) {
-        return Answer::Refused(Refusal::TableLimits);
+        return Err(Refusal::TableLimits);
     }
     let events = t.events;
     if !imports_unused(events, t.q) {
-        return Answer::Refused(Refusal::TableLimits);
+        return Err(Refusal::TableLimits);
     }
     let variables = t.variables;
     unless(variables_unused(variables, t.v), Refusal::TableLimits)

@@ -1,11 +1,10 @@
 -- A step read from front to back: of a table it looks at the imports alone, and of what came before at the last time.
-use Rattle.std.specs.Prelude.{Bool, true, false, cond, List, [], ◌∷◌, ◌++◌, ◌≡◌, ℕ, zero, suc, leb, ltb, eqb}
+use Rattle.std.specs.Prelude.{Bool, true, false, cond, List, [], ◌∷◌, ◌++◌, ◌≡◌, ℕ, zero, suc, leb, ltb, eqb, Err, Some}
 use Rattle.values.specs.declared.Truth.{Truth}
 use Rattle.values.specs.declared.Number.{Number}
 use Rattle.refusals.specs.declared.Refusal.{Refusal}
-use Rattle.refusals.specs.declared.Answer.{Answer}
+use Rattle.refusals.specs.Answers.{Answer}
 use Rattle.refusals.specs.Numbering.{unless, and_then}
-use Rattle.bits.specs.declared.Field.{Field}
 use Rattle.bits.specs.Bits.{field_at}
 use Rattle.bits.specs.Twos.{signed}
 use Rattle.bits.specs.Reading.{refused, Reading, give, ◌>>=◌, field, whatever, padding, ended, stops}
@@ -66,12 +65,12 @@ unfolding condition_report event_report import_fault reports read_step
 the_step = tt
 
 -- "23 before 24", whatever came before
-pub import_before_order : (t : Table) (least i : ℕ) → ltb i t.q ≡ false → import_fault t least i ≡ Answer.Refused Refusal.StepImport
+pub import_before_order : (t : Table) (least i : ℕ) → ltb i t.q ≡ false → import_fault t least i ≡ Err Refusal.StepImport
 unfolding import_fault
 import_before_order t least i none = rw none
 
 -- 22 is judged as soon as the 47 bits of time are there, whatever follows
-pub time_first : (t : Table) (earliest time : ℕ) (s : List ℕ) → field_at s 0 47 ≡ Field.There time → leb earliest time ≡ false
+pub time_first : (t : Table) (earliest time : ℕ) (s : List ℕ) → field_at s 0 47 ≡ Some time → leb earliest time ≡ false
     → read_step t earliest s 0 ≡ refused Refusal.Time
 unfolding read_step
 time_first t earliest time s there early = rw there (stops (leb earliest time) Refusal.Time time 47 _ early)

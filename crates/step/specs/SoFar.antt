@@ -1,6 +1,6 @@
 -- The reports of a step, as far as they have been heard.
 use mathlib.Core.List.{List, [], ◌∷◌, ◌++◌, append_assoc}
-use Rattle.std.specs.Prelude.{◌≡◌, refl, ℕ, suc, ◌+◌, ◌-◌, ◌*◌, ◌<◌, ◌≤◌, replicate}
+use Rattle.std.specs.Prelude.{◌≡◌, refl, ℕ, suc, ◌+◌, ◌-◌, ◌*◌, ◌<◌, ◌≤◌, replicate, Ok, Err}
 use Rattle.std.proofs.Common.{sym, ◌∙◌, ap₂, arith, eq-eqb, ne_eqb}
 use Rattle.std.proofs.Math.Path.{ap}
 use Rattle.std.proofs.Math.Numerals.{add-one}
@@ -8,7 +8,6 @@ use Rattle.std.proofs.Math.ListN.{length, set}
 use Rattle.std.proofs.Math.Seq.{set_out}
 use Rattle.values.specs.declared.Truth.{Truth}
 use Rattle.refusals.specs.declared.Refusal.{Refusal}
-use Rattle.refusals.specs.declared.Answer.{Answer}
 use Rattle.bits.specs.Lists.{length_list}
 use Rattle.bits.specs.Reading.{Got, got, refused, onward}
 use Rattle.table.specs.declared.Table.{Table}
@@ -62,16 +61,16 @@ module _ {t : Table} {count : ℕ} {before : List TruthSlot} {s : List ℕ} {tol
         (sofar.rest ∙ ap (λ (n : ℕ). reports t n least sofar.heard s at) {x = left} {y = 0} (omega arith))
 
     -- it isn't as it should be
-    pub end_refused : (r : Refusal) → closed s at ≡ Answer.Refused r → after_count t time count s ≡ refused r
+    pub end_refused : (r : Refusal) → closed s at ≡ Err r → after_count t time count s ≡ refused r
     end_refused r e = on_end ∙ closed_refused time s sofar.heard at r e
 
     -- it is
-    pub end_accepted : closed s at ≡ Answer.Accepted
-        → taken_of before (after_count t time count s) ≡ record { answer = Answer.Accepted; time = time; told = told; reported = reported }
+    pub end_accepted : closed s at ≡ Ok tt
+        → taken_of before (after_count t time count s) ≡ record { answer = Ok tt; time = time; told = told; reported = reported }
     end_accepted e =
         ap (taken_of before) on_end
         ∙ closed_accepted time s sofar.heard at before e
-        ∙ ap₂ (λ (x : List ToldSlot) (y : List TruthSlot). record { answer = Answer.Accepted; time = time; told = x; reported = y })
+        ∙ ap₂ (λ (x : List ToldSlot) (y : List TruthSlot). record { answer = Ok tt; time = time; told = x; reported = y })
         (sym sofar.tells) (sym sofar.leaves)
 
   module _ (more : 0 < left) where

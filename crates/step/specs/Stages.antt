@@ -1,11 +1,10 @@
 -- A step, a stage at a time: what is left to read after the report count, and after the reports.
-use Rattle.std.specs.Prelude.{List, [], ◌≡◌, refl, ℕ, ◌≤◌}
+use Rattle.std.specs.Prelude.{List, [], ◌≡◌, refl, ℕ, ◌≤◌, Ok, Err, Some, None}
 use Rattle.std.proofs.Common.{sym, ◌∙◌, arith}
 use Rattle.std.proofs.Math.Path.{ap}
 use borrow.Author.Tests.{le-leb}
 use Rattle.refusals.specs.declared.Refusal.{Refusal}
-use Rattle.refusals.specs.declared.Answer.{Answer}
-use Rattle.bits.specs.declared.Field.{Field}
+use Rattle.refusals.specs.Answers.{Answer}
 use Rattle.bits.specs.Bits.{field_at}
 use Rattle.bits.specs.Reading.{Got, got, refused, answered, onward, onward_onward, ◌>>=◌, Reading, padding, ended}
 use Rattle.table.specs.declared.Table.{Table}
@@ -38,13 +37,13 @@ unfoldable pub closed : List ℕ → ℕ → Answer
 closed s at = answered (closing s at)
 
 -- a step after a reading that was not refused
-after_accepted : (before : List TruthSlot) (step : Step) (m : Got ℕ) → answered m ≡ Answer.Accepted
+after_accepted : (before : List TruthSlot) (step : Step) (m : Got ℕ) → answered m ≡ Ok tt
     → taken_of before (onward m (λ end last. got step last)) ≡ taken_of before (got step 0)
 after_accepted before step (got end next) e = refl
 after_accepted before step (refused r) e = let z : ◌≡◌ {A = ℕ} 0 1 = cc in absurd (omega arith)
 
 -- and after one that was
-after_refused : (step : Step) (m : Got ℕ) (r : Refusal) → answered m ≡ Answer.Refused r → onward m (λ end last. got step last) ≡ refused r
+after_refused : (step : Step) (m : Got ℕ) (r : Refusal) → answered m ≡ Err r → onward m (λ end last. got step last) ≡ refused r
 after_refused step (got end next) r e = let z : ◌≡◌ {A = ℕ} 0 1 = cc in absurd (omega arith)
 after_refused step (refused q) r e = cc
 
@@ -56,29 +55,29 @@ module _ (time : ℕ) (s : List ℕ) (told : List Report) (at : ℕ) where
       (onward_onward (padding Refusal.StepCut Refusal.StepPadding s at) (λ zeros next. ended Refusal.StepLeftOver s next) (λ end last. got _ last))
 
   -- a step that ends as it should is taken
-  pub closed_accepted : (before : List TruthSlot) → closed s at ≡ Answer.Accepted
+  pub closed_accepted : (before : List TruthSlot) → closed s at ≡ Ok tt
       → taken_of before (after_reports time s told at) ≡ taken_of before (got (record { time = time; reports = told }) 0)
   unfolding closed
   closed_accepted before e = ap (taken_of before) closing_first ∙ after_accepted before _ (closing s at) e
 
   -- any other is refused
-  pub closed_refused : (r : Refusal) → closed s at ≡ Answer.Refused r → after_reports time s told at ≡ refused r
+  pub closed_refused : (r : Refusal) → closed s at ≡ Err r → after_reports time s told at ≡ refused r
   unfolding closed
   closed_refused r e = closing_first ∙ after_refused _ (closing s at) r e
 
 module _ (t : Table) (earliest : ℕ) (s : List ℕ) where
   -- the time isn't wholly there
-  pub time_cut : field_at s 0 47 ≡ Field.Missing → read_step t earliest s 0 ≡ refused Refusal.StepCut
+  pub time_cut : field_at s 0 47 ≡ None → read_step t earliest s 0 ≡ refused Refusal.StepCut
   unfolding read_step
   time_cut cut = rw cut
 
-  module _ (time : ℕ) (there : field_at s 0 47 ≡ Field.There time) (late : earliest ≤ time) where
+  module _ (time : ℕ) (there : field_at s 0 47 ≡ Some time) (late : earliest ≤ time) where
     -- the report count isn't wholly there
-    pub count_cut : field_at s 47 6 ≡ Field.Missing → read_step t earliest s 0 ≡ refused Refusal.StepCut
+    pub count_cut : field_at s 47 6 ≡ None → read_step t earliest s 0 ≡ refused Refusal.StepCut
     unfolding read_step
     count_cut cut = rw (there, le-leb earliest time late, cut)
 
     -- the reports decide
-    pub on_count : (count : ℕ) → field_at s 47 6 ≡ Field.There count → read_step t earliest s 0 ≡ after_count t time count s
+    pub on_count : (count : ℕ) → field_at s 47 6 ≡ Some count → read_step t earliest s 0 ≡ after_count t time count s
     unfolding read_step
     on_count count found = rw (there, le-leb earliest time late, found)

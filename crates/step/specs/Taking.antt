@@ -1,7 +1,6 @@
 -- What is taken from a step: its time, what it tells of each import, and the last reported values after it.
-use Rattle.std.specs.Prelude.{List, ℕ, get_or, replicate}
+use Rattle.std.specs.Prelude.{List, ℕ, get_or, replicate, Ok, Err}
 use Rattle.values.specs.declared.Truth.{Truth}
-use Rattle.refusals.specs.declared.Answer.{Answer}
 use Rattle.bits.specs.Bits.{list_to}
 use Rattle.bits.specs.Reading.{Got, got, refused}
 use Rattle.table.specs.Limits.{limits}
@@ -37,14 +36,14 @@ reported_after before reports = list_to limits.imports (λ i. record { truth = r
 abbrev pub taken_of : List TruthSlot → Got Step → Taken
 taken_of before (got s end) =
     record {
-      answer = Answer.Accepted;
+      answer = Ok tt;
       time = s.time;
       told = told_slots s.reports;
       reported = reported_after before s.reports;
     }
 taken_of before (refused r) =
     record {
-      answer = Answer.Refused r;
+      answer = Err r;
       time = 0;
       told = replicate limits.imports (record { told = Told.Nothing });
       reported = before;

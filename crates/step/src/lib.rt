@@ -5,7 +5,7 @@ mod reading;
 mod report;
 
 pub use reading::read;
-use refusals::{Answer, Refusal};
+use refusals::Refusal;
 use table::Table;
 use values::{Number, Truth};
 
@@ -32,7 +32,7 @@ pub struct TruthSlot {
 // A step that was read: its time, what it tells of each import, and the last reported values after it; or the refusal.
 #[derive(Clone, Copy)]
 pub struct Taken {
-    pub answer: Answer,
+    pub answer: Result<(), Refusal>,
     pub time: u64,
     pub told: [ToldSlot; Table::IMPORTS],
     pub reported: [TruthSlot; Table::IMPORTS],

@@ -7,8 +7,7 @@ ghost use Rattle.step.specs.Stages.{closed, after_count};
 
 use crate::report::next_report;
 use crate::{Heard, Taken, Told, ToldSlot, TruthSlot};
-use bits::Field;
-use refusals::{Answer, Refusal};
+use refusals::Refusal;
 use table::Table;
 use values::Truth;
 
@@ -17,7 +16,7 @@ fn refused(refusal: Refusal, reported: [TruthSlot; Table::IMPORTS]) -> Taken
     ensures { result ≡ taken_of reported (reading.refused refusal) }
 {
     Taken {
-        answer: Answer::Refused(refusal),
+        answer: Err(refusal),
         time: 0,
         told: [ToldSlot {
             told: Told::Nothing,
@@ -38,22 +37,22 @@ fn reported_now(told: Told, before: Truth) -> Truth
 }
 
 // "Zero bits up to a whole byte end it."
-fn close(s: &[u8], at: usize) -> Answer
+fn close(s: &[u8], at: usize) -> Result<(), Refusal>
     requires { at ≤ 4096 }
     ensures { result ≡ closed s.now at }
 {
     let w = (8 - at % 8) % 8;
-    let Field::There(zeros) = bits::field_at(s, at, w) else {
-        return Answer::Refused(Refusal::StepCut);
+    let Some(zeros) = bits::field_at(s, at, w) else {
+        return Err(Refusal::StepCut);
     };
     let padded = zeros != 0;
     if padded {
-        return Answer::Refused(Refusal::StepPadding);
+        return Err(Refusal::StepPadding);
     }
     if (at + w) / 8 != s.len() {
-        return Answer::Refused(Refusal::StepLeftOver);
+        return Err(Refusal::StepLeftOver);
     }
-    Answer::Accepted
+    Ok(())
 }
 
 // "the reports, import numbers strictly rising", and the end of the step.
@@ -95,9 +94,9 @@ fn reports(
         left -= 1;
     }
     match close(s, at) {
-        Answer::Refused(r) => refused(r, earlier),
-        Answer::Accepted => Taken {
-            answer: Answer::Accepted,
+        Err(r) => refused(r, earlier),
+        Ok(()) => Taken {
+            answer: Ok(()),
             time: time,
             told: told,
             reported: reported,
@@ -109,13 +108,13 @@ fn reports(
 pub fn read(t: Table, earliest: u64, reported: [TruthSlot; Table::IMPORTS], s: &[u8]) -> Taken
     ensures { result ≡ taken_of reported (read_step t earliest s.now 0) }
 {
-    let Field::There(time) = bits::field_at(s, 0, 47) else {
+    let Some(time) = bits::field_at(s, 0, 47) else {
         return refused(Refusal::StepCut, reported);
     };
     if time < earliest {
         return refused(Refusal::Time, reported);
     }
-    let Field::There(count) = bits::field_at(s, 47, 6) else {
+    let Some(count) = bits::field_at(s, 47, 6) else {
         return refused(Refusal::StepCut, reported);
     };
     reports(t, time, count as usize, reported, s)

@@ -5,7 +5,6 @@ ghost use Rattle.step.specs.Reader.{truth_code, condition_report, event_report, 
 ghost use Rattle.step.specs.Hearing.{heard_of, about, next_report};
 
 use crate::{Heard, Told};
-use bits::Field;
 use refusals::Refusal;
 use values::{Number, Truth};
 
@@ -27,7 +26,7 @@ fn condition(s: &[u8], at: usize, i: usize) -> Heard
     requires { at ≤ 65536 }
     ensures { result ≡ heard_of (about i (condition_report s.now at)) }
 {
-    let Field::There(code) = bits::field_at(s, at, 2) else {
+    let Some(code) = bits::field_at(s, at, 2) else {
         return Heard::Refused(Refusal::StepCut);
     };
     let unknown = 3 <= code;
@@ -42,14 +41,14 @@ fn event(s: &[u8], at: usize, i: usize) -> Heard
     requires { at ≤ 65536 }
     ensures { result ≡ heard_of (about i (event_report s.now at)) }
 {
-    let Field::There(bit) = bits::field_at(s, at, 1) else {
+    let Some(bit) = bits::field_at(s, at, 1) else {
         return Heard::Refused(Refusal::StepCut);
     };
     let first = at + 1;
     if bit != 1 {
         return Heard::Report(i, Told::Event(Number::Undefined), first);
     }
-    let Field::There(value) = bits::field_at(s, first, 48) else {
+    let Some(value) = bits::field_at(s, first, 48) else {
         return Heard::Refused(Refusal::StepCut);
     };
     Heard::Report(
@@ -85,7 +84,7 @@ pub(crate) fn next_report(s: &[u8], at: usize, q: usize, least: usize, events: &
     requires { at ≤ 4096 }
     ensures { (t : tables.Table) → t.q ≡ q → t.events ≡ events.now → result ≡ heard_of (next_report t least s.now at) }
 {
-    let Field::There(i) = bits::field_at(s, at, 6) else {
+    let Some(i) = bits::field_at(s, at, 6) else {
         return Heard::Refused(Refusal::StepCut);
     };
     let i = i as usize;

@@ -1,9 +1,9 @@
 -- Faults of a table: refusals 4, 7, 8 and 13 in the order of the writer's check.
-use Rattle.std.specs.Prelude.{false, ◌&&◌, ◌≡◌, List, [], ◌∷◌, ℕ, leb, ltb}
+use Rattle.std.specs.Prelude.{false, ◌&&◌, ◌≡◌, List, [], ◌∷◌, ℕ, leb, ltb, Ok, Err}
 use Rattle.values.specs.declared.Number.{Number}
 use Rattle.values.specs.Numbers.{in_range}
 use Rattle.refusals.specs.declared.Refusal.{Refusal}
-use Rattle.refusals.specs.declared.Answer.{Answer}
+use Rattle.refusals.specs.Answers.{Answer}
 use Rattle.refusals.specs.Numbering.{unless, and_then, first_fault}
 use Rattle.refusals.specs.Accepting.{refused_first}
 use Rattle.table.specs.declared.Sort.{Sort}
@@ -22,7 +22,7 @@ operand_fault t k (constant z) = unless (in_range z) Refusal.Range
 
 -- the first fault among operands, in order
 unfoldable pub operands_fault : Table → ℕ → List Operand → Answer
-operands_fault t k [] = Answer.Accepted
+operands_fault t k [] = Ok tt
 operands_fault t k (o ∷ os) = and_then (operand_fault t k o) (operands_fault t k os)
 
 -- "4: n, q or v outside its limits ...; in the writer, also an unused slot not as above"
@@ -33,7 +33,7 @@ limits_fault t =
 
 -- "variables (13; ...)"
 unfoldable pub number_fault : Number → Answer
-number_fault Number.Undefined = Answer.Accepted
+number_fault Number.Undefined = Ok tt
 number_fault (Number.Whole z) = unless (in_range z) Refusal.Range
 
 -- "it checks 4, then variables (13; ...), entries in order (7, 8, 13)"
@@ -45,8 +45,8 @@ table_fault t =
 
 -- any fault is 29
 abbrev pub as_unsound : Answer → Answer
-as_unsound Answer.Accepted = Answer.Accepted
-as_unsound (Answer.Refused r) = Answer.Refused Refusal.Unsound
+as_unsound (Ok _) = Ok tt
+as_unsound (Err r) = Err Refusal.Unsound
 
 -- "29: ... table that the writer would refuse with 4, 7, 8 or 13"
 unfoldable pub unsound_table : Table → Answer
@@ -58,16 +58,16 @@ unfolding kind_of operands_of sort_of labelled update_of entry_at initial_of is_
 the_faults = tt
 
 -- "operand by operand, 7 before 8": what is no earlier entry is 7, whatever its sort
-pub seven_before_eight : (t : Table) (k : ℕ) (s : Sort) (a : ℕ) → ltb a k ≡ false → operand_fault t k (entry s a) ≡ Answer.Refused Refusal.Operand
+pub seven_before_eight : (t : Table) (k : ℕ) (s : Sort) (a : ℕ) → ltb a k ≡ false → operand_fault t k (entry s a) ≡ Err Refusal.Operand
 unfolding operand_fault
 seven_before_eight t k s a late = rw late
 
 -- and so is an import ≥ q
-pub seven_before_eight_import : (t : Table) (k : ℕ) (s : Sort) (i : ℕ) → ltb i t.q ≡ false → operand_fault t k (imported s i) ≡ Answer.Refused Refusal.Operand
+pub seven_before_eight_import : (t : Table) (k : ℕ) (s : Sort) (i : ℕ) → ltb i t.q ≡ false → operand_fault t k (imported s i) ≡ Err Refusal.Operand
 unfolding operand_fault
 seven_before_eight_import t k s i none = rw none
 
 -- 4 is judged wholly first
-pub four_first : (t : Table) (r : Refusal) → limits_fault t ≡ Answer.Refused r → table_fault t ≡ Answer.Refused r
+pub four_first : (t : Table) (r : Refusal) → limits_fault t ≡ Err r → table_fault t ≡ Err r
 unfolding table_fault
 four_first t r bad = refused_first {a = limits_fault t} _ bad

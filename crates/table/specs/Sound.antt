@@ -1,9 +1,8 @@
 -- A table without fault, in parts, and back.
-use Rattle.std.specs.Prelude.{true, ◌&&◌, ◌≡◌, ℕ, ◌<◌, ◌≤◌, leb}
+use Rattle.std.specs.Prelude.{true, ◌&&◌, ◌≡◌, ℕ, ◌<◌, ◌≤◌, leb, Ok}
 use Rattle.std.proofs.Common.{le-leb, leb-true}
 use Rattle.replies.specs.Plain.{both_true}
 use Rattle.refusals.specs.declared.Refusal.{Refusal}
-use Rattle.refusals.specs.declared.Answer.{Answer}
 use Rattle.refusals.specs.Numbering.{and_then, first_fault}
 use Rattle.refusals.specs.Accepting.{unless_accepted, accepted_first, accepted_second, none_at_fault, no_fault}
 use Rattle.table.specs.declared.Table.{Table}
@@ -23,11 +22,11 @@ pub record Within (t : Table) : Type 0 where
 pub record Sound (t : Table) : Type 0 where
   pub within : Within t
   pub unused : unused_slots t ≡ true
-  pub numbers : (x : ℕ) → x < t.v → number_fault (initial_of t x) ≡ Answer.Accepted
-  pub operands : (k : ℕ) → k < t.n → operands_fault t k (operands_of (entry_at t k)) ≡ Answer.Accepted
+  pub numbers : (x : ℕ) → x < t.v → number_fault (initial_of t x) ≡ Ok tt
+  pub operands : (k : ℕ) → k < t.n → operands_fault t k (operands_of (entry_at t k)) ≡ Ok tt
 
 -- its limits and its unused slots
-pub limits_within : (t : Table) → limits_fault t ≡ Answer.Accepted → Within t × (unused_slots t ≡ true)
+pub limits_within : (t : Table) → limits_fault t ≡ Ok tt → Within t × (unused_slots t ≡ true)
 unfolding limits_fault
 limits_within t good =
     let one = leb 1 t.n in
@@ -48,7 +47,7 @@ limits_within t good =
     )
 
 -- a table that is accepted is sound
-pub sound_table : (t : Table) → table_fault t ≡ Answer.Accepted → Sound t
+pub sound_table : (t : Table) → table_fault t ≡ Ok tt → Sound t
 unfolding table_fault
 sound_table t good =
     let numbers = first_fault t.v (λ x. number_fault (initial_of t x)) in
@@ -63,7 +62,7 @@ sound_table t good =
     }
 
 -- "n, q or v outside its limits; ... also an unused slot"
-pub within_limits : (t : Table) → Within t → unused_slots t ≡ true → limits_fault t ≡ Answer.Accepted
+pub within_limits : (t : Table) → Within t → unused_slots t ≡ true → limits_fault t ≡ Ok tt
 unfolding limits_fault
 within_limits t within unused =
     rw (
@@ -75,8 +74,8 @@ within_limits t within unused =
     )
 
 -- the writer's check of a table, part by part
-pub table_sound : (t : Table) → limits_fault t ≡ Answer.Accepted → ((x : ℕ) → x < t.v → number_fault (initial_of t x) ≡ Answer.Accepted)
-    → ((k : ℕ) → k < t.n → operands_fault t k (operands_of (entry_at t k)) ≡ Answer.Accepted) → table_fault t ≡ Answer.Accepted
+pub table_sound : (t : Table) → limits_fault t ≡ Ok tt → ((x : ℕ) → x < t.v → number_fault (initial_of t x) ≡ Ok tt)
+    → ((k : ℕ) → k < t.n → operands_fault t k (operands_of (entry_at t k)) ≡ Ok tt) → table_fault t ≡ Ok tt
 unfolding table_fault
 table_sound t limited numbers operands =
     rw (limited, no_fault t.v (λ x. number_fault (initial_of t x)) numbers)

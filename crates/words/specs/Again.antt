@@ -1,5 +1,5 @@
 -- What is made a word and read back is the same.
-use Rattle.std.specs.Prelude.{Bool, true, false, cond, List, [], ◌∷◌, ◌≡◌, refl, ℕ, suc, ◌+◌, ◌-◌, ◌*◌, ◌/◌, ◌%◌, ◌^◌, ◌<◌, eqb, ℤ, pos, negsuc}
+use Rattle.std.specs.Prelude.{Bool, true, false, cond, List, [], ◌∷◌, ◌≡◌, refl, ℕ, suc, ◌+◌, ◌-◌, ◌*◌, ◌/◌, ◌%◌, ◌^◌, ◌<◌, eqb, ℤ, pos, negsuc, Ok}
 use Rattle.std.proofs.Common.{ap, ◌∙◌, arith, eq-eqb, lt-ltb, le-ltb, ltb-true, eqb-true}
 use Rattle.std.proofs.Math.Pow.{low}
 use Rattle.replies.specs.Plain.{never}
@@ -7,7 +7,6 @@ use Rattle.values.specs.declared.Truth.{Truth}
 use Rattle.values.specs.declared.Number.{Number}
 use Rattle.values.specs.Numbers.{in_range, fits_n, eq_z}
 use Rattle.refusals.specs.declared.Refusal.{Refusal}
-use Rattle.refusals.specs.declared.Answer.{Answer}
 use Rattle.refusals.specs.Numbering.{unless}
 use Rattle.refusals.specs.Accepting.{unless_accepted, accepted_first}
 use Rattle.table.specs.declared.Entry.{Entry}
@@ -119,7 +118,7 @@ pub entry_again : (e : Entry) → Inside (places_of e) → in_range (constant_of
 entry_again e inside fits = entry_back e (λ other. (inside, fits))
 
 -- "13: number outside 48 bits": no accepted constant is such a one
-pub constant_fits : (t : Table) (k : ℕ) (os : List Operand) → operands_fault t k os ≡ Answer.Accepted → in_range (constant_of (first_of os)) ≡ true
+pub constant_fits : (t : Table) (k : ℕ) (os : List Operand) → operands_fault t k os ≡ Ok tt → in_range (constant_of (first_of os)) ≡ true
 unfolding operands_fault operand_fault
 constant_fits t k [] good = refl
 constant_fits t k (entry s a ∷ rest) good = refl

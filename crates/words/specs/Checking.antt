@@ -1,9 +1,9 @@
 -- 29 for words, as it is found: their number, then each of them, then the monitor in them.
-use Rattle.std.specs.Prelude.{Bool, List, ◌≡◌, refl, ℕ, zero, suc, ◌<◌, eqb, length}
+use Rattle.std.specs.Prelude.{Bool, List, ◌≡◌, refl, ℕ, zero, suc, ◌<◌, eqb, length, Ok, Err}
 use Rattle.std.proofs.Math.Path.{sym, ap}
 use Rattle.std.proofs.Common.{◌∙◌, arith, eq-eqb, ne_eqb}
 use Rattle.refusals.specs.declared.Refusal.{Refusal}
-use Rattle.refusals.specs.declared.Answer.{Answer}
+use Rattle.refusals.specs.Answers.{Answer}
 use Rattle.refusals.specs.Numbering.{unless, and_then, first_fault}
 use Rattle.monitor.specs.declared.Monitor.{Monitor}
 use Rattle.monitor.specs.Keeping.{unsound}
@@ -16,11 +16,11 @@ abbrev pub differ_at : List ℕ → List ℕ → ℕ → Answer
 differ_at words other j = unless (eqb (word_in words j) (word_in other j)) Refusal.Unsound
 
 -- two words that are the same
-pub word_same : (words other : List ℕ) (j : ℕ) → word_in words j ≡ word_in other j → differ_at words other j ≡ Answer.Accepted
+pub word_same : (words other : List ℕ) (j : ℕ) → word_in words j ≡ word_in other j → differ_at words other j ≡ Ok tt
 word_same words other j same = ap (λ (b : Bool). unless b Refusal.Unsound) (eq-eqb _ _ same)
 
 -- two that are not
-pub word_differs : (words other : List ℕ) (j : ℕ) → (word_in words j ≡ word_in other j → ⊥) → differ_at words other j ≡ Answer.Refused Refusal.Unsound
+pub word_differs : (words other : List ℕ) (j : ℕ) → (word_in words j ≡ word_in other j → ⊥) → differ_at words other j ≡ Err Refusal.Unsound
 word_differs words other j differ = ap (λ (b : Bool). unless b Refusal.Unsound) (ne_eqb _ _ differ)
 
 -- faults that are the same at each place have the same first
@@ -39,7 +39,7 @@ module _ (words : List ℕ) where
       (λ j h. ap (λ (w : ℕ). unless (eqb (word_in words j) w) Refusal.Unsound) (ap (λ (l : List ℕ). word_in l j) is ∙ word_there (monitor_in words) j h))
 
   -- how many words there are is judged first
-  pub length_decides : (length words ≡ state_words → ⊥) → Answer.Refused Refusal.Unsound ≡ state_fault words
+  pub length_decides : (length words ≡ state_words → ⊥) → Err Refusal.Unsound ≡ state_fault words
   unfolding state_fault
   length_decides other = rw (ne_eqb (length words) state_words other)
 
@@ -49,11 +49,11 @@ module _ (words : List ℕ) where
     same = compare ∙ compared (made ∙ ap state_of is)
 
     -- then each of them
-    pub words_decide : {r : Refusal} → found ≡ Answer.Refused r → Answer.Refused r ≡ state_fault words
+    pub words_decide : {r : Refusal} → found ≡ Err r → Err r ≡ state_fault words
     unfolding state_fault
     words_decide bad = rw (eq-eqb (length words) state_words long, sym same ∙ bad)
 
     -- then the monitor
-    pub monitor_decides : found ≡ Answer.Accepted → {a : Answer} → a ≡ unsound m → a ≡ state_fault words
+    pub monitor_decides : found ≡ Ok tt → {a : Answer} → a ≡ unsound m → a ≡ state_fault words
     unfolding state_fault
     monitor_decides good said = rw (eq-eqb (length words) state_words long, sym same ∙ good) (said ∙ ap unsound is)

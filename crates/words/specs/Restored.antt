@@ -1,5 +1,5 @@
 -- A sound monitor comes back from its words, and 29 for words is 29 for the monitor that they are.
-use Rattle.std.specs.Prelude.{Bool, true, ◌&&◌, List, ◌≡◌, refl, ℕ, ◌+◌, ◌<◌, length}
+use Rattle.std.specs.Prelude.{Bool, true, ◌&&◌, List, ◌≡◌, refl, ℕ, ◌+◌, ◌<◌, length, Ok}
 use Rattle.std.proofs.Math.Bool.{false, not}
 use Rattle.std.proofs.Math.Path.{sym, ap}
 use Rattle.std.proofs.Common.{◌∙◌, arith, eq-eqb, eqb-true}
@@ -10,7 +10,6 @@ use Rattle.values.specs.declared.Truth.{Truth}
 use Rattle.values.specs.declared.Number.{Number}
 use Rattle.values.specs.Numbers.{in_range, fits_n}
 use Rattle.refusals.specs.declared.Refusal.{Refusal}
-use Rattle.refusals.specs.declared.Answer.{Answer}
 use Rattle.refusals.specs.Numbering.{unless, and_then, first_fault}
 use Rattle.refusals.specs.Accepting.{unless_accepted, accepted_first, accepted_second, none_at_fault, no_fault}
 use Rattle.bits.specs.Lists.{length_list}
@@ -116,7 +115,7 @@ module _ (m : Monitor) (kept : Kept m) where
       (λ k h. ap (λ (e : Entry). record { entry = e }) (sym (ap entry_of_word (entry_there m k h) ∙ slot_again m.table sound k h))))
 
   -- a sound monitor comes back from its words
-  pub monitor_again : unsound m ≡ Answer.Accepted → monitor_in (state_of m) ≡ m
+  pub monitor_again : unsound m ≡ Ok tt → monitor_in (state_of m) ≡ m
   unfolding monitor_in initial_of
   monitor_again good =
       let sound = sound_of m good in
@@ -186,8 +185,8 @@ kept_in words =
     }
 
 -- words without fault are those of the monitor in them, and it is sound
-pub state_sound : (words : List ℕ) → state_fault words ≡ Answer.Accepted
-    → (words ≡ state_of (monitor_in words)) × (unsound (monitor_in words) ≡ Answer.Accepted)
+pub state_sound : (words : List ℕ) → state_fault words ≡ Ok tt
+    → (words ≡ state_of (monitor_in words)) × (unsound (monitor_in words) ≡ Ok tt)
 unfolding state_fault state_of
 state_sound words good =
     let long = unless (eqb (length words) state_words) Refusal.Unsound in
@@ -201,10 +200,10 @@ state_sound words good =
     )
 
 -- the words of a sound monitor are without fault
-pub sound_state : (m : Monitor) → Kept m → unsound m ≡ Answer.Accepted → state_fault (state_of m) ≡ Answer.Accepted
+pub sound_state : (m : Monitor) → Kept m → unsound m ≡ Ok tt → state_fault (state_of m) ≡ Ok tt
 unfolding state_fault
 sound_state m kept good =
     let again = monitor_again m kept good in
-    let faultless : (j : ℕ) → j < state_words → word_fault (state_of m) j ≡ Answer.Accepted =
+    let faultless : (j : ℕ) → j < state_words → word_fault (state_of m) j ≡ Ok tt =
     λ j h. ap (λ (b : Bool). unless b Refusal.Unsound) (eq-eqb _ _ (word_there m j h ∙ ap (λ (o : Monitor). word_at o j) (sym again))) in
     rw (eq-eqb (length (state_of m)) state_words (length_state m), no_fault state_words (word_fault (state_of m)) faultless) (ap unsound again ∙ good)

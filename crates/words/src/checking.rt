@@ -7,36 +7,36 @@ ghost use Rattle.words.specs.Checking.{differ_at};
 
 use crate::{WORDS, monitor_in, pack};
 use monitor::unsound;
-use refusals::{Answer, Refusal};
+use refusals::Refusal;
 
 // A place at which two rows of 452 words differ is a fault.
-fn words_fault(state: &[u64], other: &[u64]) -> Answer
+fn words_fault(state: &[u64], other: &[u64]) -> Result<(), Refusal>
     requires { (length state.now ≡ state_words) × (length other.now ≡ state_words) }
     ensures { result ≡ first_fault state_words (differ_at state.now other.now) }
 {
     let mut j: usize = 0;
     while j < WORDS {
         if state[j] != other[j] {
-            return Answer::Refused(Refusal::Unsound);
+            return Err(Refusal::Unsound);
         }
         j += 1;
     }
-    Answer::Accepted
+    Ok(())
 }
 
 // 29 where the words are not 452, are not those of a monitor, or are those of one that is at fault.
-pub fn state_fault(state: &[u64]) -> Answer
+pub fn state_fault(state: &[u64]) -> Result<(), Refusal>
     ensures { result ≡ state_fault state.now }
 {
     let wrong_size = state.len() != WORDS;
     if wrong_size {
-        return Answer::Refused(Refusal::Unsound);
+        return Err(Refusal::Unsound);
     }
     let m = monitor_in(state);
     let mut again: [u64; WORDS] = [0; WORDS];
     pack(m, &mut again);
     match words_fault(state, &again) {
-        Answer::Refused(r) => Answer::Refused(r),
-        Answer::Accepted => unsound(m),
+        Err(r) => Err(r),
+        Ok(()) => unsound(m),
     }
 }

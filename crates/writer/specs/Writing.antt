@@ -1,10 +1,10 @@
 -- A script written: how long it is, in which order its faults come, and what the destination holds then.
-use Rattle.std.specs.Prelude.{List, ◌++◌, ◌≡◌, refl, ℕ, ◌+◌, ◌*◌, ◌/◌, ◌<◌, ◌≤◌, leb, ltb, length, drop}
+use Rattle.std.specs.Prelude.{List, ◌++◌, ◌≡◌, refl, ℕ, ◌+◌, ◌*◌, ◌/◌, ◌<◌, ◌≤◌, leb, ltb, length, drop, Ok, Err}
 use Rattle.std.proofs.Common.{sym, ◌∙◌, ap, arith, leb-true, le-leb, length-append, take_at, drop-drop}
 use Rattle.std.proofs.lemmas.Bool.{lt-leb}
 use Rattle.std.proofs.Math.Seq.{paste, take-length, drop-append-add}
 use Rattle.refusals.specs.declared.Refusal.{Refusal}
-use Rattle.refusals.specs.declared.Answer.{Answer}
+use Rattle.refusals.specs.Answers.{Answer}
 use Rattle.refusals.specs.Numbering.{unless, and_then}
 use Rattle.bits.specs.Bits.{bits_of_all, bytes_of}
 use Rattle.bits.specs.Holding.{Bytes, width_of_all}
@@ -44,15 +44,15 @@ abbrev pub room_fault : ℕ → ℕ → Answer
 room_fault size room = and_then (unless (leb size limits.script) Refusal.TooLong) (unless (leb size room) Refusal.NoRoom)
 
 -- a script over its limit
-pub room_long : (size room : ℕ) → limits.script < size → room_fault size room ≡ Answer.Refused Refusal.TooLong
+pub room_long : (size room : ℕ) → limits.script < size → room_fault size room ≡ Err Refusal.TooLong
 room_long size room long = rw (lt-leb size limits.script long)
 
 -- one that the destination has no room for
-pub room_none : (size room : ℕ) → size ≤ limits.script → room < size → room_fault size room ≡ Answer.Refused Refusal.NoRoom
+pub room_none : (size room : ℕ) → size ≤ limits.script → room < size → room_fault size room ≡ Err Refusal.NoRoom
 room_none size room short none = rw (le-leb size limits.script short, lt-leb size room none)
 
 -- and one that it has room for
-pub room_enough : (size room : ℕ) → size ≤ limits.script → size ≤ room → room_fault size room ≡ Answer.Accepted
+pub room_enough : (size room : ℕ) → size ≤ limits.script → size ≤ room → room_fault size room ≡ Ok tt
 room_enough size room short enough = rw (le-leb size limits.script short, le-leb size room enough)
 
 -- the answer of all the labels does not depend on the wanted one
@@ -74,27 +74,27 @@ writer_fault_lem t block room =
     ap (λ (n : ℕ). and_then (table_fault t) (and_then (block_fault t block) (room_fault n room))) (script_length t block)
 
 -- the room is the last to be judged
-pub room_last : (t : Table) (block : List ℕ) (room : ℕ) → table_fault t ≡ Answer.Accepted → block_fault t block ≡ Answer.Accepted
+pub room_last : (t : Table) (block : List ℕ) (room : ℕ) → table_fault t ≡ Ok tt → block_fault t block ≡ Ok tt
     → writer_fault t block room ≡ room_fault (packed_size t + length block) room
 room_last t block room good fine = writer_fault_lem t block room ∙ rw (good, fine) refl
 
 -- an answer that is the table's, and accepts: the table is within its limits
-pub within_told : {a : Answer} (t : Table) → a ≡ table_fault t → a ≡ Answer.Accepted → Within t
+pub within_told : {a : Answer} (t : Table) → a ≡ table_fault t → a ≡ Ok tt → Within t
 within_told t is accepted = (sound_table t (sym is ∙ accepted)).within
 
 -- one that refuses is the writer's
-pub table_told : {a : Answer} {r : Refusal} (t : Table) (block : List ℕ) (room : ℕ) → a ≡ table_fault t → a ≡ Answer.Refused r
-    → Answer.Refused r ≡ writer_fault t block room
+pub table_told : {a : Answer} {r : Refusal} (t : Table) (block : List ℕ) (room : ℕ) → a ≡ table_fault t → a ≡ Err r
+    → Err r ≡ writer_fault t block room
 table_told {r = r} t block room is bad = sym (table_first t block room r (sym is ∙ bad))
 
 -- and so is one of the block that refuses, where the table is accepted
-pub block_told : {a b : Answer} {r : Refusal} (t : Table) (block : List ℕ) (room : ℕ) → a ≡ table_fault t → a ≡ Answer.Accepted → b ≡ block_fault t block
-    → b ≡ Answer.Refused r → Answer.Refused r ≡ writer_fault t block room
+pub block_told : {a b : Answer} {r : Refusal} (t : Table) (block : List ℕ) (room : ℕ) → a ≡ table_fault t → a ≡ Ok tt → b ≡ block_fault t block
+    → b ≡ Err r → Err r ≡ writer_fault t block room
 block_told {r = r} t block room is accepted is' bad = sym (block_next t block room r (sym is ∙ accepted) (sym is' ∙ bad))
 
 -- where both are accepted, it is the answer to the size
-pub size_told : {a b c : Answer} {packed : ℕ} (t : Table) (block : List ℕ) (room : ℕ) → a ≡ table_fault t → a ≡ Answer.Accepted → b ≡ block_fault t block
-    → b ≡ Answer.Accepted → packed ≡ packed_size t → c ≡ room_fault (packed + length block) room → c ≡ writer_fault t block room
+pub size_told : {a b c : Answer} {packed : ℕ} (t : Table) (block : List ℕ) (room : ℕ) → a ≡ table_fault t → a ≡ Ok tt → b ≡ block_fault t block
+    → b ≡ Ok tt → packed ≡ packed_size t → c ≡ room_fault (packed + length block) room → c ≡ writer_fault t block room
 size_told t block room is accepted is' accepted' packed last =
     last ∙ ap (λ (n : ℕ). room_fault (n + length block) room) packed ∙ sym (room_last t block room (sym is ∙ accepted) (sym is' ∙ accepted'))
 
@@ -105,7 +105,7 @@ pub record Writable (t : Table) (block : List ℕ) (room : ℕ) : Type 0 where
   pub fits : packed_size t + length block ≤ room
 
 -- where no fault is found
-pub writable : (t : Table) (block : List ℕ) (room : ℕ) → writer_fault t block room ≡ Answer.Accepted → Writable t block room
+pub writable : (t : Table) (block : List ℕ) (room : ℕ) → writer_fault t block room ≡ Ok tt → Writable t block room
 writable t block room good =
     let size = packed_size t + length block in
     let long = unless (leb size limits.script) Refusal.TooLong in
@@ -155,30 +155,30 @@ filled t block destination packed size bytes room put =
         ∙ drop-drop (length block) (packed_size t) destination
 
 -- an answer that is the writer's, and accepts: what is known of the script
-pub writable_told : {a : Answer} (t : Table) (block : List ℕ) (room : ℕ) → a ≡ writer_fault t block room → a ≡ Answer.Accepted → Writable t block room
+pub writable_told : {a : Answer} (t : Table) (block : List ℕ) (room : ℕ) → a ≡ writer_fault t block room → a ≡ Ok tt → Writable t block room
 writable_told t block room is accepted = writable t block room (sym is ∙ accepted)
 
 -- the reply
 pub written_reply_lem : {a : Answer} {size : ℕ} (t : Table) (block destination : List ℕ) → a ≡ writer_fault t block (length destination)
-    → a ≡ Answer.Accepted → size ≡ length (script_bytes t block)
-    → record { answer = Answer.Accepted; size = size } ≡ write_script t block destination
+    → a ≡ Ok tt → size ≡ length (script_bytes t block)
+    → record { answer = Ok tt; size = size } ≡ write_script t block destination
 unfolding write_script
 written_reply_lem t block destination is accepted long = rw (sym is ∙ accepted, long)
 
 -- and the destination
 pub written_bytes_lem : {a : Answer} {final : List ℕ} (t : Table) (block destination : List ℕ) → a ≡ writer_fault t block (length destination)
-    → a ≡ Answer.Accepted → final ≡ filled_with (script_bytes t block) destination → final ≡ write_bytes t block destination
+    → a ≡ Ok tt → final ≡ filled_with (script_bytes t block) destination → final ≡ write_bytes t block destination
 unfolding write_bytes
 written_bytes_lem t block destination is accepted fills = rw (sym is ∙ accepted) fills
 
 -- an answer that refuses: the reply
 pub refused_reply : {a : Answer} {r : Refusal} (t : Table) (block destination : List ℕ) → a ≡ writer_fault t block (length destination)
-    → a ≡ Answer.Refused r → record { answer = Answer.Refused r; size = 0 } ≡ write_script t block destination
+    → a ≡ Err r → record { answer = Err r; size = 0 } ≡ write_script t block destination
 unfolding write_script
 refused_reply t block destination is bad = rw (sym is ∙ bad)
 
 -- and the destination, which stays as it was
 pub refused_bytes : {a : Answer} {r : Refusal} (t : Table) (block destination : List ℕ) → a ≡ writer_fault t block (length destination)
-    → a ≡ Answer.Refused r → destination ≡ write_bytes t block destination
+    → a ≡ Err r → destination ≡ write_bytes t block destination
 unfolding write_bytes
 refused_bytes t block destination is bad = rw (sym is ∙ bad)

@@ -11,12 +11,12 @@ ghost use Rattle.writer.specs.Writing.{room_fault, Writable, filled_with};
 
 use crate::packing::pack;
 use crate::sizes::packed_size;
-use refusals::{Answer, Refusal};
+use refusals::Refusal;
 use script::Written;
 use table::Table;
 
 // "the block (2, 10, 11)"
-fn block_fault(t: Table, block: &[u8]) -> Answer
+fn block_fault(t: Table, block: &[u8]) -> Result<(), Refusal>
     ensures { result ≡ block_fault t block.now }
 {
     let count = labels::before(t, t.n);
@@ -26,27 +26,27 @@ fn block_fault(t: Table, block: &[u8]) -> Answer
 }
 
 // "then 1, then 12"
-fn room_fault(size: usize, room: usize) -> Answer
+fn room_fault(size: usize, room: usize) -> Result<(), Refusal>
     ensures { result ≡ room_fault size room }
 {
     if 4096 < size {
-        return Answer::Refused(Refusal::TooLong);
+        return Err(Refusal::TooLong);
     }
     if room < size {
-        return Answer::Refused(Refusal::NoRoom);
+        return Err(Refusal::NoRoom);
     }
-    Answer::Accepted
+    Ok(())
 }
 
 // "it checks 4, then variables (13 ...), entries in order (7, 8, 13), the block (2, 10, 11), then 1, then 12"
-fn fault(t: Table, block: &[u8], room: usize) -> Answer
+fn fault(t: Table, block: &[u8], room: usize) -> Result<(), Refusal>
     ensures { result ≡ writer_fault t block.now room }
 {
     match sound::fault(t) {
-        Answer::Refused(r) => Answer::Refused(r),
-        Answer::Accepted => match block_fault(t, block) {
-            Answer::Refused(r) => Answer::Refused(r),
-            Answer::Accepted => room_fault(packed_size(t) + block.len(), room),
+        Err(r) => Err(r),
+        Ok(()) => match block_fault(t, block) {
+            Err(r) => Err(r),
+            Ok(()) => room_fault(packed_size(t) + block.len(), room),
         },
     }
 }
@@ -80,12 +80,12 @@ pub fn write(t: Table, block: &[u8], dst: &mut [u8]) -> Written
     ensures bytes { dst.new ≡ write_bytes t block.now dst.old }
 {
     match fault(t, block, dst.len()) {
-        Answer::Refused(r) => Written {
-            answer: Answer::Refused(r),
+        Err(r) => Written {
+            answer: Err(r),
             size: 0,
         },
-        Answer::Accepted => Written {
-            answer: Answer::Accepted,
+        Ok(()) => Written {
+            answer: Ok(()),
             size: fill(dst, t, block),
         },
     }

@@ -15,7 +15,7 @@ pub overflow_add-result : goal.overflow_add-result
 overflow_add-result c =
     omega (
       arith,
-      there_ends c.args.s.now _ _ _ (sym c.field_at.ensures ∙ c.in-There.is),
+      there_ends c.args.s.now _ _ _ (sym c.field_at.ensures ∙ c.in-Some.is),
       c.requires.0,
     )
 
@@ -23,6 +23,6 @@ overflow_add-result c =
 pub returns : goal.returns
 returns c =
     judged_there _ _ _ _ _ _ _ _ _ c.requires.1.0 _
-    (sym c.field_at.ensures ∙ c.in-There.is)
+    (sym c.field_at.ensures ∙ c.in-Some.is)
     c.holding.ensures
     c.judge.ensures

@@ -4,4 +4,4 @@ use Rattle.entries.proofs.operand.Goals as goal
 
 -- there is no operand
 pub returns-then-w-eq0 : goal.returns-then-w-eq0
-returns-then-w-eq0 c = none_after _ _ _ _ _ _ _ _ c.in-Accepted.is _ c.width-w.ensures c.if-w-eq0.true
+returns-then-w-eq0 c = none_after _ _ _ _ _ _ _ _ c.in-Ok.is _ c.width-w.ensures c.if-w-eq0.true

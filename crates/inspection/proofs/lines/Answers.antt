@@ -6,12 +6,12 @@ use Rattle.inspection.proofs.lines.Goals as goal
 pub rules-requires : goal.rules-requires
 rules-requires c = search read_few
 
-pub returns-in-Accepted : goal.returns-in-Accepted
-returns-in-Accepted c =
-    let laid = lays_accepted c.args.script.now c.read-read.ensures c.in-Accepted.is c.put_script-at.ensures c.rules.ensures in
+pub returns-in-Ok : goal.returns-in-Ok
+returns-in-Ok c =
+    let laid = lays_accepted c.args.script.now c.read-read.ensures c.in-Ok.is c.put_script-at.ensures c.rules.ensures in
     record { lays = laid; within = (lays_within laid).1 }
 
-pub returns-in-Refused : goal.returns-in-Refused
-returns-in-Refused c =
-    let laid = lays_refused c.args.script.now c.read-read.ensures c.in-Refused.is c.put_script_refused.ensures in
+pub returns-in-Err : goal.returns-in-Err
+returns-in-Err c =
+    let laid = lays_refused c.args.script.now c.read-read.ensures c.in-Err.is c.put_script_refused.ensures in
     record { lays = laid; within = (lays_within laid).1 }

@@ -1,10 +1,10 @@
 -- `labels::one` meets its contract: each way out is the fault, or the text, that the laws of one label name.
+use Rattle.std.proofs.Common.{Some}
 use mathlib.Core.List.{List}
 use mathlib.Core.Path.{◌≡◌, sym, ◌∙◌, ap}
 use Prim.Native.Nat.{ℕ, ◌+◌, ◌-◌, ◌*◌, ◌<◌, ◌≤◌}
 use native.Mathlib.Omega.{arith}
 use lib.ListN.{length, drop, take}
-use Rattle.bits.specs.declared.Field.{Field}
 use Rattle.bits.specs.Bits.{field_at}
 use Rattle.script.specs.Labels.{printable, text, label}
 use Rattle.labels.specs.Laws.{found_in, label_cut, label_long, label_text_lem, length_within, text_cut, text_fault, text_found}
@@ -19,16 +19,16 @@ pub returns-then-too_long : goal.returns-then-too_long
 returns-then-too_long c =
     let bytes : List ℕ = c.args.s.now in
     let place : ℕ = c.args.from in
-    let long : ℕ = c.in-There.size in
-    let there : field_at bytes (8 * place) 8 ≡ Field.There long = sym c.byte_at.ensures ∙ c.in-There.is in
+    let long : ℕ = c.in-Some.size in
+    let there : field_at bytes (8 * place) 8 ≡ Some long = sym c.byte_at.ensures ∙ c.in-Some.is in
     sym (ap found_in (label_long bytes (8 * place) long there (omega arith)))
 
 pub overflow_add-first : goal.overflow_add-first
 overflow_add-first c =
     let bytes : List ℕ = c.args.s.now in
     let place : ℕ = c.args.from in
-    let long : ℕ = c.in-There.size in
-    let there : field_at bytes (8 * place) 8 ≡ Field.There long = sym c.byte_at.ensures ∙ c.in-There.is in
+    let long : ℕ = c.in-Some.size in
+    let there : field_at bytes (8 * place) 8 ≡ Some long = sym c.byte_at.ensures ∙ c.in-Some.is in
     let begun : place < length bytes = length_within bytes place long there in
     omega (arith, begun)
 
@@ -36,8 +36,8 @@ pub overflow_sub-cut : goal.overflow_sub-cut
 overflow_sub-cut c =
     let bytes : List ℕ = c.args.s.now in
     let place : ℕ = c.args.from in
-    let long : ℕ = c.in-There.size in
-    let there : field_at bytes (8 * place) 8 ≡ Field.There long = sym c.byte_at.ensures ∙ c.in-There.is in
+    let long : ℕ = c.in-Some.size in
+    let there : field_at bytes (8 * place) 8 ≡ Some long = sym c.byte_at.ensures ∙ c.in-Some.is in
     let begun : place < length bytes = length_within bytes place long there in
     omega (arith, begun)
 
@@ -45,8 +45,8 @@ pub returns-then-cut : goal.returns-then-cut
 returns-then-cut c =
     let bytes : List ℕ = c.args.s.now in
     let place : ℕ = c.args.from in
-    let long : ℕ = c.in-There.size in
-    let there : field_at bytes (8 * place) 8 ≡ Field.There long = sym c.byte_at.ensures ∙ c.in-There.is in
+    let long : ℕ = c.in-Some.size in
+    let there : field_at bytes (8 * place) 8 ≡ Some long = sym c.byte_at.ensures ∙ c.in-Some.is in
     let begun : place < length bytes = length_within bytes place long there in
     let on-text : label bytes (8 * place) ≡ text long bytes (8 * (place + 1)) = label_text_lem bytes place long there (omega arith) in
     sym (ap found_in (on-text ∙ text_cut bytes (place + 1) long (omega (arith, begun))))
@@ -55,8 +55,8 @@ pub overflow_add-first-2 : goal.overflow_add-first-2
 overflow_add-first-2 c =
     let bytes : List ℕ = c.args.s.now in
     let place : ℕ = c.args.from in
-    let long : ℕ = c.in-There.size in
-    let there : field_at bytes (8 * place) 8 ≡ Field.There long = sym c.byte_at.ensures ∙ c.in-There.is in
+    let long : ℕ = c.in-Some.size in
+    let there : field_at bytes (8 * place) 8 ≡ Some long = sym c.byte_at.ensures ∙ c.in-Some.is in
     let begun : place < length bytes = length_within bytes place long there in
     let room : place + 1 + long ≤ length bytes = omega (arith, begun) in
     omega (arith, room)
@@ -65,8 +65,8 @@ pub slice_bounds-all_printable-end : goal.slice_bounds-all_printable-end
 slice_bounds-all_printable-end c =
     let bytes : List ℕ = c.args.s.now in
     let place : ℕ = c.args.from in
-    let long : ℕ = c.in-There.size in
-    let there : field_at bytes (8 * place) 8 ≡ Field.There long = sym c.byte_at.ensures ∙ c.in-There.is in
+    let long : ℕ = c.in-Some.size in
+    let there : field_at bytes (8 * place) 8 ≡ Some long = sym c.byte_at.ensures ∙ c.in-Some.is in
     let begun : place < length bytes = length_within bytes place long there in
     let room : place + 1 + long ≤ length bytes = omega (arith, begun) in
     room
@@ -75,8 +75,8 @@ pub returns-then-not-all_printable : goal.returns-then-not-all_printable
 returns-then-not-all_printable c =
     let bytes : List ℕ = c.args.s.now in
     let place : ℕ = c.args.from in
-    let long : ℕ = c.in-There.size in
-    let there : field_at bytes (8 * place) 8 ≡ Field.There long = sym c.byte_at.ensures ∙ c.in-There.is in
+    let long : ℕ = c.in-Some.size in
+    let there : field_at bytes (8 * place) 8 ≡ Some long = sym c.byte_at.ensures ∙ c.in-Some.is in
     let begun : place < length bytes = length_within bytes place long there in
     let on-text : label bytes (8 * place) ≡ text long bytes (8 * (place + 1)) = label_text_lem bytes place long there (omega arith) in
     let room : place + 1 + long ≤ length bytes = omega (arith, begun) in
@@ -89,8 +89,8 @@ pub returns : goal.returns
 returns c =
     let bytes : List ℕ = c.args.s.now in
     let place : ℕ = c.args.from in
-    let long : ℕ = c.in-There.size in
-    let there : field_at bytes (8 * place) 8 ≡ Field.There long = sym c.byte_at.ensures ∙ c.in-There.is in
+    let long : ℕ = c.in-Some.size in
+    let there : field_at bytes (8 * place) 8 ≡ Some long = sym c.byte_at.ensures ∙ c.in-Some.is in
     let begun : place < length bytes = length_within bytes place long there in
     let on-text : label bytes (8 * place) ≡ text long bytes (8 * (place + 1)) = label_text_lem bytes place long there (omega arith) in
     let room : place + 1 + long ≤ length bytes = omega (arith, begun) in

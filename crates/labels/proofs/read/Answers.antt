@@ -10,11 +10,11 @@ use Rattle.labels.specs.Passed.{passed_wanted, passed_other, passed_refused, pas
 use Rattle.labels.proofs.read.Goals.{then-j-wanted, else-j-wanted}
 use Rattle.labels.proofs.read.Goals as goal
 
-pub returns-in-Refused : goal.returns-in-Refused
-returns-in-Refused c =
+pub returns-in-Err : goal.returns-in-Err
+returns-in-Err c =
     let s = c.args.s.now in
     let loop = c.loop-j in
-    let here = found_refused s loop.at c.in-Refused.refusal (sym c.one.ensures ∙ c.in-Refused.is) in
+    let here = found_refused s loop.at c.in-Err.refusal (sym c.one.ensures ∙ c.in-Err.is) in
     c.no_label.ensures ∙ sym (passed_refused loop.invariant c.loop-j-test.true here)
 
 pub overflow_add-at : goal.overflow_add-at

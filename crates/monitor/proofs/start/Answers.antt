@@ -2,8 +2,8 @@
 use Rattle.monitor.specs.Replying.{start_sound, start_unsound}
 use Rattle.monitor.proofs.start.Goals as goal
 
-pub returns-in-Accepted : goal.returns-in-Accepted
-returns-in-Accepted c = search start_sound
+pub returns-in-Ok : goal.returns-in-Ok
+returns-in-Ok c = search start_sound
 
-pub returns-in-Refused : goal.returns-in-Refused
-returns-in-Refused c = search start_unsound
+pub returns-in-Err : goal.returns-in-Err
+returns-in-Err c = search start_unsound

@@ -7,9 +7,9 @@ pub reply-requires : goal.reply-requires
 unfolding taken_by
 reply-requires c = (search found_sound, search taken_time)
 
-pub returns-in-Accepted : goal.returns-in-Accepted
+pub returns-in-Ok : goal.returns-in-Ok
 unfolding taken_by
-returns-in-Accepted c = search step_sound
+returns-in-Ok c = search step_sound
 
-pub returns-in-Refused : goal.returns-in-Refused
-returns-in-Refused c = search step_unsound
+pub returns-in-Err : goal.returns-in-Err
+returns-in-Err c = search step_unsound

@@ -6,8 +6,8 @@ use Rattle.reacher.proofs.of_entry.Goals as goal
 -- what a refusal is shown by, whichever it is: which comes first is for the code to say
 ruleset refused = (rules, reply_unsound, reply_no_entry)
 
-pub returns-in-Refused : goal.returns-in-Refused
-returns-in-Refused c = search refused
+pub returns-in-Err : goal.returns-in-Err
+returns-in-Err c = search refused
 
 pub returns-then-t-entry : goal.returns-then-t-entry
 returns-then-t-entry c = search refused

@@ -13,12 +13,12 @@ pub loop-k-init : goal.loop-k-init
 unfolding first_fault
 loop-k-init c = record { within = search rules; room = refl; sorted = λ a l. absurd (not-suc-le-zero l); none = refl }
 
-pub returns-in-Refused : goal.returns-in-Refused
+pub returns-in-Err : goal.returns-in-Err
 unfolding entry_at
-returns-in-Refused c =
+returns-in-Err c =
     sym
     (fault_found (entry_fault c.args.t) _ c.loop-k.k _ c.loop-k-test.true c.loop-k.invariant.none
-    (entry_judged c.args.t c.loop-k.k c.loop-k.sorts c.loop-k.invariant.sorted c.apart_of-parts.ensures c.operands_fault.ensures ∙ c.in-Refused.is))
+    (entry_judged c.args.t c.loop-k.k c.loop-k.sorts c.loop-k.invariant.sorted c.apart_of-parts.ensures c.operands_fault.ensures ∙ c.in-Err.is))
 
 pub loop-k-preserved : goal.loop-k-preserved
 unfolding entry_at
@@ -29,5 +29,5 @@ loop-k-preserved c =
       sorted = sorts_more c.args.t c.loop-k.k c.loop-k.sorts c.loop-k.invariant.sorted c.apart_of-parts.ensures c.sort_of_kind.ensures (search rules);
       none =
           fault_none (entry_fault c.args.t) c.loop-k.k c.loop-k.invariant.none
-          (entry_judged c.args.t c.loop-k.k c.loop-k.sorts c.loop-k.invariant.sorted c.apart_of-parts.ensures c.operands_fault.ensures ∙ c.in-Accepted.is);
+          (entry_judged c.args.t c.loop-k.k c.loop-k.sorts c.loop-k.invariant.sorted c.apart_of-parts.ensures c.operands_fault.ensures ∙ c.in-Ok.is);
     }

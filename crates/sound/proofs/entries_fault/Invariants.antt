@@ -1,9 +1,9 @@
 -- `sound::entries_fault` meets its contract. The loop's invariant: the sorts of the entries passed are kept, and none of them has a fault.
+use Rattle.std.proofs.Common.{Ok}
 use lib.ListN.{length}
 use mathlib.Core.List.{List}
 use mathlib.Core.Path.{◌≡◌}
 use Prim.Native.Nat.{ℕ, ◌≤◌, ◌-◌}
-use Rattle.refusals.specs.declared.Answer.{Answer}
 use Rattle.refusals.specs.Numbering.{first_fault}
 use Rattle.table.specs.declared.Table.{Table}
 use Rattle.sound.specs.Laws.{Sorts, entry_fault}
@@ -14,7 +14,7 @@ pub record Come (t : Table) (sorts : List ℕ) (k : ℕ) : Type 0 where
   pub within : k ≤ t.n
   pub room : length sorts ≡ 128
   pub sorted : Sorts t k sorts
-  pub none : first_fault k (entry_fault t) ≡ Answer.Accepted
+  pub none : first_fault k (entry_fault t) ≡ Ok tt
 
 abbrev pub invariant-loop-k : goal.invariant-loop-k
 invariant-loop-k l = Come l.t l.sorts l.k

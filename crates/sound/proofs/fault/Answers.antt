@@ -6,20 +6,20 @@ use Rattle.table.specs.Sound.{limits_within}
 use Rattle.sound.proofs.fault.Goals as goal
 
 pub variables_fault-requires : goal.variables_fault-requires
-variables_fault-requires c = (limits_within _ (sym c.limits_fault.ensures ∙ c.in-Accepted.is)).0.variables
+variables_fault-requires c = (limits_within _ (sym c.limits_fault.ensures ∙ c.in-Ok.is)).0.variables
 
 pub entries_fault-requires : goal.entries_fault-requires
-entries_fault-requires c = (limits_within _ (sym c.limits_fault.ensures ∙ c.in-Accepted.is)).0.entries
+entries_fault-requires c = (limits_within _ (sym c.limits_fault.ensures ∙ c.in-Ok.is)).0.entries
 
-pub returns-in-Accepted : goal.returns-in-Accepted
+pub returns-in-Ok : goal.returns-in-Ok
 unfolding table_fault initial_of
-returns-in-Accepted c =
+returns-in-Ok c =
     rw (
-      sym c.limits_fault.ensures ∙ c.in-Accepted.is,
+      sym c.limits_fault.ensures ∙ c.in-Ok.is,
       ← c.variables_fault.ensures,
       ← c.entries_fault.ensures,
     )
     c.first.ensures
 
-pub returns-in-Refused : goal.returns-in-Refused
-returns-in-Refused c = sym (four_first _ _ (sym c.limits_fault.ensures ∙ c.in-Refused.is))
+pub returns-in-Err : goal.returns-in-Err
+returns-in-Err c = sym (four_first _ _ (sym c.limits_fault.ensures ∙ c.in-Err.is))

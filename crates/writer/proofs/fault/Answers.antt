@@ -9,11 +9,11 @@ packed_size-requires c = search within_told
 pub overflow_add-packed_size : goal.overflow_add-packed_size
 overflow_add-packed_size c = omega (arith, c.packed_size.ensures, packed_small c.args.t (search within_told))
 
-pub returns-in-Refused : goal.returns-in-Refused
-returns-in-Refused c = search table_told
+pub returns-in-Err : goal.returns-in-Err
+returns-in-Err c = search table_told
 
-pub returns-in-Refused-block_fault : goal.returns-in-Refused-block_fault
-returns-in-Refused-block_fault c = search block_told
+pub returns-in-Err-block_fault : goal.returns-in-Err-block_fault
+returns-in-Err-block_fault c = search block_told
 
-pub returns-in-Accepted-block_fault : goal.returns-in-Accepted-block_fault
-returns-in-Accepted-block_fault c = search size_told
+pub returns-in-Ok-block_fault : goal.returns-in-Ok-block_fault
+returns-in-Ok-block_fault c = search size_told

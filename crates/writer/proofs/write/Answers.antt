@@ -5,14 +5,14 @@ use Rattle.writer.proofs.write.Goals as goal
 pub fill-requires : goal.fill-requires
 fill-requires c = search writable_told
 
-pub returns-in-Refused-clause-reply : goal.returns-in-Refused-clause-reply
-returns-in-Refused-clause-reply c = search refused_reply
+pub returns-in-Err-clause-reply : goal.returns-in-Err-clause-reply
+returns-in-Err-clause-reply c = search refused_reply
 
-pub returns-in-Refused-clause-bytes : goal.returns-in-Refused-clause-bytes
-returns-in-Refused-clause-bytes c = search refused_bytes
+pub returns-in-Err-clause-bytes : goal.returns-in-Err-clause-bytes
+returns-in-Err-clause-bytes c = search refused_bytes
 
-pub returns-in-Accepted-clause-reply : goal.returns-in-Accepted-clause-reply
-returns-in-Accepted-clause-reply c = search written_reply_lem
+pub returns-in-Ok-clause-reply : goal.returns-in-Ok-clause-reply
+returns-in-Ok-clause-reply c = search written_reply_lem
 
-pub returns-in-Accepted-clause-bytes : goal.returns-in-Accepted-clause-bytes
-returns-in-Accepted-clause-bytes c = search written_bytes_lem
+pub returns-in-Ok-clause-bytes : goal.returns-in-Ok-clause-bytes
+returns-in-Ok-clause-bytes c = search written_bytes_lem

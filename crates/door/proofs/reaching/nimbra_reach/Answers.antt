@@ -9,8 +9,8 @@ returns-then-state-ne-WORDS c = reach_words _ _ _ (λ e. omega arith)
 pub returns-then-wrong_marks : goal.returns-then-wrong_marks
 returns-then-wrong_marks c = reach_marks _ _ _ (omega arith) (λ e. omega arith)
 
-pub returns-in-Refused : goal.returns-in-Refused
-returns-in-Refused c = search reach_unsound
+pub returns-in-Err : goal.returns-in-Err
+returns-in-Err c = search reach_unsound
 
-pub returns-in-Accepted : goal.returns-in-Accepted
-returns-in-Accepted c = search reach_shown
+pub returns-in-Ok : goal.returns-in-Ok
+returns-in-Ok c = search reach_shown

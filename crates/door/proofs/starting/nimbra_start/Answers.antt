@@ -6,8 +6,8 @@ use Rattle.door.proofs.starting.nimbra_start.Goals as goal
 pub returns-then-wrong_words : goal.returns-then-wrong_words
 returns-then-wrong_words c = start_size _ _ (λ e. omega arith)
 
-pub returns-in-Refused : goal.returns-in-Refused
-returns-in-Refused c = search start_refused
+pub returns-in-Err : goal.returns-in-Err
+returns-in-Err c = search start_refused
 
-pub returns-in-Accepted : goal.returns-in-Accepted
-returns-in-Accepted c = search start_done
+pub returns-in-Ok : goal.returns-in-Ok
+returns-in-Ok c = search start_done

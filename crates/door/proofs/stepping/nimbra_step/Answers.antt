@@ -9,8 +9,8 @@ returns-then-state-ne-WORDS c = step_words _ _ _ (λ e. omega arith)
 pub returns-then-results-ne128 : goal.returns-then-results-ne128
 returns-then-results-ne128 c = step_slots _ _ _ (omega arith) (λ e. omega arith)
 
-pub returns-in-Refused : goal.returns-in-Refused
-returns-in-Refused c = search step_unsound
+pub returns-in-Err : goal.returns-in-Err
+returns-in-Err c = search step_unsound
 
-pub returns-in-Accepted : goal.returns-in-Accepted
-returns-in-Accepted c = search step_done
+pub returns-in-Ok : goal.returns-in-Ok
+returns-in-Ok c = search step_done

@@ -9,8 +9,8 @@ returns-then-state-ne-WORDS c = write_words _ _ _ _ (λ e. omega arith)
 pub returns-then-wrong_size : goal.returns-then-wrong_size
 returns-then-wrong_size c = write_size _ _ _ _ (omega arith) (λ e. omega arith)
 
-pub returns-in-Refused : goal.returns-in-Refused
-returns-in-Refused c = search write_unsound
+pub returns-in-Err : goal.returns-in-Err
+returns-in-Err c = search write_unsound
 
-pub returns-in-Accepted : goal.returns-in-Accepted
-returns-in-Accepted c = search write_done
+pub returns-in-Ok : goal.returns-in-Ok
+returns-in-Ok c = search write_done

@@ -10,10 +10,10 @@ use Rattle.hearing.proofs.reading.reports.Goals as goal
 pub loop-left-init : goal.loop-left-init
 loop-left-init c = gathers_none _ _ _ _
 
-pub returns-in-Refused : goal.returns-in-Refused
-returns-in-Refused c empty =
+pub returns-in-Err : goal.returns-in-Err
+returns-in-Err c empty =
     let report-is : let a = c.args in next_of (next_report (lent a.q a.events.now) c.loop-left.least a.s.now c.loop-left.at) ≡ c.next_report.result = sym c.next_report.ensures in
-    gathers_stops c.loop-left.invariant (omega arith) _ (next_refused _ _ (report-is ∙ c.in-Refused.is)) empty
+    gathers_stops c.loop-left.invariant (omega arith) _ (next_refused _ _ (report-is ∙ c.in-Err.is)) empty
 
 pub overflow_add-least : goal.overflow_add-least
 overflow_add-least c =

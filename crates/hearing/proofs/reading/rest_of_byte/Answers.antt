@@ -13,4 +13,4 @@ returns-in_default c =
 pub returns : goal.returns
 returns c =
     rw (shl_exact {a = 1} 1 c.args.w 64 (omega arith) (omega arith), one-mul)
-    (rest_there _ c.args.at c.args.w c.requires (omega arith) _ (sym c.byte_at.ensures ∙ c.in-There.is))
+    (rest_there _ c.args.at c.args.w c.requires (omega arith) _ (sym c.byte_at.ensures ∙ c.in-Some.is))

@@ -1,8 +1,9 @@
 -- `monitor::kept::held_fault` meets its contract. The loop's invariant: no number passed has a fault.
+use Rattle.std.proofs.Common.{Ok}
 use mathlib.Core.List.{List}
 use mathlib.Core.Path.{◌≡◌}
 use Prim.Native.Nat.{ℕ, ◌≤◌, ◌-◌}
-use Rattle.refusals.specs.declared.Answer.{Answer}
+use Rattle.refusals.specs.Answers.{Answer}
 use Rattle.refusals.specs.Numbering.{first_fault}
 use Rattle.table.specs.declared.VariableSlot.{VariableSlot}
 use Rattle.table.specs.Tables.{number_at}
@@ -13,7 +14,7 @@ abbrev pub faultAt : List VariableSlot → ℕ → Answer
 faultAt held x = number_fault (number_at held x)
 
 abbrev pub invariant-loop-x : goal.invariant-loop-x
-invariant-loop-x l = (l.x ≤ 32) × (first_fault l.x (faultAt l.held) ≡ Answer.Accepted)
+invariant-loop-x l = (l.x ≤ 32) × (first_fault l.x (faultAt l.held) ≡ Ok tt)
 
 abbrev pub decreases-loop-x : goal.decreases-loop-x
 decreases-loop-x l = 32 - l.x

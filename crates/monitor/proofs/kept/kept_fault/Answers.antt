@@ -5,8 +5,8 @@ use Rattle.monitor.proofs.kept.kept_fault.Goals as goal
 pub returns-then-not-kept_fits : goal.returns-then-not-kept_fits
 returns-then-not-kept_fits c = search last_decides
 
-pub returns-in-Refused : goal.returns-in-Refused
-returns-in-Refused c = search held_decides
+pub returns-in-Err : goal.returns-in-Err
+returns-in-Err c = search held_decides
 
-pub returns-in-Accepted : goal.returns-in-Accepted
-returns-in-Accepted c = search cells_decide
+pub returns-in-Ok : goal.returns-in-Ok
+returns-in-Ok c = search cells_decide

@@ -2,8 +2,8 @@
 use Rattle.monitor.specs.Unsound.{table_decides, kept_decides}
 use Rattle.monitor.proofs.kept.unsound.Goals as goal
 
-pub returns-in-Refused : goal.returns-in-Refused
-returns-in-Refused c = search table_decides
+pub returns-in-Err : goal.returns-in-Err
+returns-in-Err c = search table_decides
 
-pub returns-in-Accepted : goal.returns-in-Accepted
-returns-in-Accepted c = search kept_decides
+pub returns-in-Ok : goal.returns-in-Ok
+returns-in-Ok c = search kept_decides

@@ -17,7 +17,7 @@ loop-i-preserved c = (
   (
     omega arith,
     sym (import_next c.args.t.q c.loop-i.i c.loop-i-test.true c.loop-i.table c.args.s.now c.loop-i.next
-        c.in-There.bit (sym c.field_at.ensures ∙ c.in-There.is))
+        c.in-Some.bit (sym c.field_at.ensures ∙ c.in-Some.is))
         ∙ c.loop-i.invariant.1.1,
   ),
 )

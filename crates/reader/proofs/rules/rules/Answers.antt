@@ -6,10 +6,10 @@ use Rattle.kinds.specs.Apart.{sort_of_kind}
 use Rattle.reader.specs.Rules.{ruled_refused, ruled_next, ruled_done}
 use Rattle.reader.proofs.rules.rules.Goals as goal
 
-pub returns-in-Refused : goal.returns-in-Refused
-returns-in-Refused c =
+pub returns-in-Err : goal.returns-in-Err
+returns-in-Err c =
     c.refused.ensures
-    ∙ sym (ruled_refused c.loop-k.invariant c.loop-k-test.true c.requires.0 _ (sym c.read.ensures ∙ c.in-Refused.is))
+    ∙ sym (ruled_refused c.loop-k.invariant c.loop-k-test.true c.requires.0 _ (sym c.read.ensures ∙ c.in-Err.is))
 
 pub loop-k-preserved : goal.loop-k-preserved
 loop-k-preserved c =

@@ -11,10 +11,10 @@ returns-then-too_long c = c.refused_scan.ensures ∙ sym (scan_long c.args.s.now
 
 pub labels_from-requires : goal.labels_from-requires
 labels_from-requires c =
-    let there = stage_accepted c.packed-stage.result _ c.packed-stage.ensures c.in-Accepted.is in
+    let there = stage_accepted c.packed-stage.result _ c.packed-stage.ensures c.in-Ok.is in
     (omega arith, there ∙ ap (got c.packed-stage.result.table) (sym (block_begins c.args.s.now _ _ there).0))
 
-pub returns-in-Refused : goal.returns-in-Refused
-returns-in-Refused c =
-    c.refused_scan-in-Refused.ensures
-    ∙ sym (scan_no_table c.args.s.now c.args.k _ (omega arith) (stage_refused c.packed-stage.result _ _ c.packed-stage.ensures c.in-Refused.is))
+pub returns-in-Err : goal.returns-in-Err
+returns-in-Err c =
+    c.refused_scan-in-Err.ensures
+    ∙ sym (scan_no_table c.args.s.now c.args.k _ (omega arith) (stage_refused c.packed-stage.result _ _ c.packed-stage.ensures c.in-Err.is))

@@ -4,4 +4,4 @@ use Rattle.replaying.proofs.turning.steps.Goals as goal
 
 -- where it was not, the monitor is stopped by 29
 pub refused_steps-requires : goal.refused_steps-requires
-refused_steps-requires c = (c.requires.0, stopped_by_29 _ c.unsound.ensures c.in-Refused.is, c.requires.1, c.requires.2)
+refused_steps-requires c = (c.requires.0, stopped_by_29 _ c.unsound.ensures c.in-Err.is, c.requires.1, c.requires.2)

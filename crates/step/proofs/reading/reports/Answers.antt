@@ -10,10 +10,10 @@ use Rattle.step.proofs.reading.reports.Goals as goal
 pub loop-left-init : goal.loop-left-init
 loop-left-init c = heard_none c.args.t c.args.count c.args.earlier c.args.s.now (omega arith)
 
-pub returns-in-Refused : goal.returns-in-Refused
-returns-in-Refused c =
+pub returns-in-Err : goal.returns-in-Err
+returns-in-Err c =
     taken_whole c.args.earlier c.refused.ensures
-    (next_stops c.loop-left.invariant (omega arith) c.args.time _ (heard_refused _ _ (sym (c.next_report.ensures c.args.t refl refl) ∙ c.in-Refused.is)))
+    (next_stops c.loop-left.invariant (omega arith) c.args.time _ (heard_refused _ _ (sym (c.next_report.ensures c.args.t refl refl) ∙ c.in-Err.is)))
 
 pub overflow_add-least : goal.overflow_add-least
 overflow_add-least c =
@@ -28,10 +28,10 @@ loop-left-preserved c =
       | else-i-lt-IMPORTS w ↦ next_past so_far (omega arith) _ _ heard refl refl refl (omega arith) w.told-is w.reported-is
     ]
 
-pub returns-in-Refused-close : goal.returns-in-Refused-close
-returns-in-Refused-close c =
-    taken_whole c.args.earlier c.refused-in-Refused-close.ensures
-    (end_refused c.loop-left.invariant c.args.time (omega arith) _ (sym c.close.ensures ∙ c.in-Refused-close.is))
+pub returns-in-Err-close : goal.returns-in-Err-close
+returns-in-Err-close c =
+    taken_whole c.args.earlier c.refused-in-Err-close.ensures
+    (end_refused c.loop-left.invariant c.args.time (omega arith) _ (sym c.close.ensures ∙ c.in-Err-close.is))
 
-pub returns-in-Accepted : goal.returns-in-Accepted
-returns-in-Accepted c = sym (end_accepted c.loop-left.invariant c.args.time (omega arith) (sym c.close.ensures ∙ c.in-Accepted.is))
+pub returns-in-Ok : goal.returns-in-Ok
+returns-in-Ok c = sym (end_accepted c.loop-left.invariant c.args.time (omega arith) (sym c.close.ensures ∙ c.in-Ok.is))

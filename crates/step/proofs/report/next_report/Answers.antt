@@ -12,19 +12,19 @@ returns-in_default c t q-is events-are = rw (sym c.field_at.ensures ∙ c.in_def
 
 pub returns-then-q-i : goal.returns-then-q-i
 unfolding next_report import_fault
-returns-then-q-i c t q-is events-are = rw (sym c.field_at.ensures ∙ c.in-There.is, le-ltb c.in-There.i t.q (omega arith))
+returns-then-q-i c t q-is events-are = rw (sym c.field_at.ensures ∙ c.in-Some.is, le-ltb c.in-Some.i t.q (omega arith))
 
 pub returns-then-i-least : goal.returns-then-i-least
 unfolding next_report import_fault
 returns-then-i-least c t q-is events-are =
-    rw (sym c.field_at.ensures ∙ c.in-There.is, lt-ltb c.in-There.i t.q (omega arith), lt-leb c.args.least c.in-There.i (omega arith))
+    rw (sym c.field_at.ensures ∙ c.in-Some.is, lt-ltb c.in-Some.i t.q (omega arith), lt-leb c.args.least c.in-Some.i (omega arith))
 
 pub returns : goal.returns
 unfolding next_report import_fault is_event
 returns c t q-is events-are =
     let a = c.args in
-    let i = c.in-There.i in
+    let i = c.in-Some.i in
     let event : c.is_event.result ≡ is_event t i = c.is_event.ensures ∙ ap (λ (l : List Bool). get_or l i false) (sym events-are) in
     c.report.ensures
     ∙ ap (λ (b : Bool). heard_of (about i (report_for b a.s.now (a.at + 6)))) event
-    ∙ rw (sym c.field_at.ensures ∙ c.in-There.is, lt-ltb i t.q (omega arith), le-leb a.least i (omega arith))
+    ∙ rw (sym c.field_at.ensures ∙ c.in-Some.is, lt-ltb i t.q (omega arith), le-leb a.least i (omega arith))

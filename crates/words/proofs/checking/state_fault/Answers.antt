@@ -9,8 +9,8 @@ words_fault-requires c = (omega arith, omega arith)
 pub returns-then-wrong_size : goal.returns-then-wrong_size
 returns-then-wrong_size c = length_decides c.args.state.now (λ e. omega arith)
 
-pub returns-in-Refused : goal.returns-in-Refused
-returns-in-Refused c = search words_decide
+pub returns-in-Err : goal.returns-in-Err
+returns-in-Err c = search words_decide
 
-pub returns-in-Accepted : goal.returns-in-Accepted
-returns-in-Accepted c = search monitor_decides
+pub returns-in-Ok : goal.returns-in-Ok
+returns-in-Ok c = search monitor_decides

@@ -3,7 +3,6 @@ use borrow.Author.Rules.{rules}
 use native.Mathlib.Omega.{arith}
 use mathlib.Core.Path.{◌≡◌, sym}
 use Prim.Native.Nat.{◌≤◌, ◌-◌}
-use Rattle.refusals.specs.declared.Answer.{Answer}
 use Rattle.refusals.specs.Numbering.{first_fault}
 use Rattle.sound.specs.Firsts.{fault_none, faults_none, fault_found}
 use Rattle.words.specs.Checking.{differ_at, word_same, word_differs}
