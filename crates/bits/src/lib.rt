@@ -4,7 +4,6 @@
 mod putting;
 mod taking;
 mod twos;
-mod wide;
 mod window;
 
 pub use putting::put;

@@ -1,4 +1,4 @@
-// The bytes that a field touches, as one number, and whether they are there.
+// The window that a field is taken from and put by: eight bytes as one number, or all the bytes where they are fewer.
 ghost use Rattle.std.specs.Prelude.{◌≡◌, ◌&&◌, ◌+◌, ◌*◌, ◌≤◌, leb, length};
 ghost use Rattle.bits.specs.Bits.{widest, bits_at};
 
@@ -21,16 +21,34 @@ pub(crate) fn has_room(len: usize, at: usize, w: usize) -> bool
     used + w <= 8 * left
 }
 
-// The number that `count` bytes make from byte `first` on, at most seven of them.
+// The number that the eight bytes from byte `first` on make.
+fn eight(s: &[u8], first: usize) -> u64
+    requires { first + 8 ≤ length s.now }
+    ensures { result ≡ bits_at s.now (8 * first) 64 }
+{
+    u64::from_be_bytes([
+        s[first],
+        s[first + 1],
+        s[first + 2],
+        s[first + 3],
+        s[first + 4],
+        s[first + 5],
+        s[first + 6],
+        s[first + 7],
+    ])
+}
+
+// The number that `count` bytes make from byte `first` on, at most eight of them.
 pub(crate) fn window_of(s: &[u8], first: usize, count: usize) -> u64
-    requires { (count ≤ 7) × (first + count ≤ length s.now) }
+    requires { (count ≤ 8) × (first + count ≤ length s.now) }
     ensures { result ≡ bits_at s.now (8 * first) (8 * count) }
 {
+    if count == 8 {
+        return eight(s, first);
+    }
     let mut number: u64 = 0;
-    let mut i: usize = 0;
-    while i < count {
+    for i in 0..count {
         number = number * 256 + s[first + i] as u64;
-        i += 1;
     }
     number
 }

@@ -1,43 +1,24 @@
--- A list that is filled from the front, place by place.
-use Rattle.std.specs.Prelude.{Bool, ◌≡◌, ℕ, ◌+◌, ◌≤◌, replicate}
-use Rattle.std.proofs.Math.Bool.{cond}
-use mathlib.Core.List.{List}
-use Rattle.std.proofs.Math.Path.{sym, ap}
-use Rattle.std.proofs.Common.{◌∙◌, arith}
-use Rattle.std.proofs.Math.Decide.{dec_lt}
-use borrow.Author.Tests.{lt-ltb, le-ltb}
-use Rattle.std.proofs.Math.Dec.{ltb}
-use Rattle.std.proofs.Math.ListN.{set}
+-- An array that is made by calls at 0, 1, .. in turn, of a function that changes nothing.
+use Rattle.std.specs.Prelude.{List, ◌≡◌, ℕ, zero, suc, ◌+◌, ◌<◌, ◌≤◌, get_or}
+use Rattle.std.specs.Fn.{Mut, Called}
+use Rattle.std.specs.Array.{IsFromFnResultFrom, IsFromFnResult}
+use Rattle.std.proofs.Common.{sym, ◌∙◌, ap, subst, arith, eq-or-lt_of_le}
+use Rattle.std.proofs.Math.Logic.{⊎_elim}
 use Rattle.bits.specs.Bits.{list_to}
-use Rattle.bits.specs.Filled.{list_same, list_all, list_set}
+use Rattle.bits.specs.Filled.{list_is}
 
--- n places, of which the first k hold f and the others d
-unfoldable pub filling : {A : Type 0} → ℕ → (ℕ → A) → A → ℕ → List A
-filling n f d k = list_to n (λ i. cond (ltb i k) (f i) d)
+module _ {F A : Type 0} (g : Mut F (ℕ × Unit {0}) A) (f : F) (at : ℕ → A)
+    (gives : (i : ℕ) (a : A) (f' : F) → Called g f (i, tt) a f' → (a ≡ at i) × (f' ≡ f)) where
+  -- each of the n places from i on
+  each_made : (l : List A) (i n : ℕ) → IsFromFnResultFrom g f l i n → (k : ℕ) → i ≤ k → k < i + n → (d : A) → get_or l k d ≡ at k
+  each_made l i zero made k low high d = absurd (omega arith)
+  each_made l i (suc n) (f', a, there, call, rest) k low high d =
+      let here = gives i a f' call in
+      ⊎_elim
+      (λ e. ap (λ (j : ℕ). get_or l j d) (sym e) ∙ there.1 d ∙ here.0 ∙ ap at e)
+      (λ later. each_made l (i + 1) n (subst (λ (p : F). IsFromFnResultFrom g p l (i + 1) n) here.1 rest) k (omega arith) (omega arith) d)
+      (eq-or-lt_of_le {n = i} {m = k} low)
 
-module _ {A : Type 0} (n : ℕ) (f : ℕ → A) (d : A) where
-  -- none is filled yet
-  pub filling_none : replicate n d ≡ filling n f d 0
-  unfolding filling
-  filling_none = list_all n (λ i. cond (ltb i 0) (f i) d) d (λ i h. sym (ap (λ (b : Bool). cond b (f i) d) (le-ltb i 0 (omega arith))))
-
-  -- one more
-  pub filling_more : (k : ℕ) (a : A) {l : List A} → l ≡ filling n f d k → a ≡ f k → set l k a ≡ filling n f d (k + 1)
-  unfolding filling
-  filling_more k a is here =
-      ap (λ (l : List A). set l k a) is
-      ∙ list_set n (λ i. cond (ltb i k) (f i) d) (λ i. cond (ltb i (k + 1)) (f i) d) k a
-      (λ h. here ∙ sym (ap (λ (b : Bool). cond b (f k) d) (lt-ltb k (k + 1) (omega arith))))
-      (λ i h other. ap (λ (b : Bool). cond b (f i) d) (same i other))
-    where
-      same : (i : ℕ) → (i ≡ k → ⊥) → ltb i k ≡ ltb i (k + 1)
-      same i other =
-          elim (dec_lt i k) [
-            | yes l ↦ lt-ltb i k l ∙ sym (lt-ltb i (k + 1) (omega arith))
-            | no l ↦ le-ltb i k (omega arith) ∙ sym (le-ltb i (k + 1) (omega (arith, other)))
-          ]
-
-  -- all are
-  pub filling_all : (k : ℕ) {l : List A} → l ≡ filling n f d k → n ≤ k → l ≡ list_to n f
-  unfolding filling
-  filling_all k is past = is ∙ list_same n _ f (λ i h. ap (λ (b : Bool). cond b (f i) d) (lt-ltb i k (omega arith)))
+  -- all of them
+  pub made_all : (l : List A) (n : ℕ) → IsFromFnResult g f l n → l ≡ list_to n at
+  made_all l n made = list_is n at (at 0) l made.long (λ i h. each_made l 0 n made.each i (omega arith) (omega arith) (at 0))

@@ -80,11 +80,10 @@ fn placed_word(o: Operand, second: bool) -> u64
     ensures { (result ≡ placed_word o (entry_unit second)) × (result < 2 ^ 35) }
 {
     match o {
-        Operand::Nothing => 0,
         Operand::Entry(_, a) => { if second { 128 * (a as u64) } else { a as u64 } }
         Operand::Imported(_, i) => 524288 * (i as u64),
         Operand::Variable(x) => 16384 * (x as u64),
-        Operand::Constant(_) => 0,
+        Operand::Nothing | Operand::Constant(_) => 0,
     }
 }
 
@@ -94,11 +93,8 @@ fn operand_word(o: Operand, places: u64) -> u64
     ensures { ((p : Places) → place_word p ≡ places → result ≡ operand_word o p) × (result < 2 ^ 49) }
 {
     match o {
-        Operand::Nothing => places,
-        Operand::Entry(_, _) => places,
-        Operand::Imported(_, _) => places,
-        Operand::Variable(_) => places,
         Operand::Constant(z) => whole_word(z),
+        _ => places,
     }
 }
 
@@ -107,9 +103,8 @@ pub(crate) fn entry_word(e: Entry) -> u64
     ensures { result ≡ entry_word e }
 {
     let parts = apart_of(e);
-    let first = parts.first;
-    let second = parts.second;
-    let third = parts.third;
-    let places = placed_word(first, false) + placed_word(second, true) + placed_word(third, true);
-    parts.kind as u64 + 32 * operand_word(first, places)
+    let places = placed_word(parts.first, false)
+        + placed_word(parts.second, true)
+        + placed_word(parts.third, true);
+    parts.kind as u64 + 32 * operand_word(parts.first, places)
 }

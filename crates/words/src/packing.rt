@@ -1,17 +1,11 @@
 // A monitor put into a buffer of words, each part at its place.
-ghost use Rattle.std.specs.Prelude.{false, [], ◌∷◌, ◌≡◌, ◌+◌, ◌≤◌, length, get_or};
+ghost use Rattle.std.specs.Prelude.{[], ◌∷◌, ◌≡◌, ℕ, ◌+◌, ◌≤◌, length, get_or, slice_index_or};
 ghost use Rattle.bits.specs.Window.{stored};
-ghost use Rattle.table.specs.Tables.{number_at};
-ghost use Rattle.step.specs.Taking.{truth_at};
-ghost use Rattle.words.specs.Words.{number_word, truth_word, event_word, entry_word};
-ghost use Rattle.words.specs.Layout.{state_words, word_at, state_of};
-ghost use Rattle.words.specs.Rows.{Begun};
-ghost use Rattle.words.specs.Packing.{slot_entry, packed};
+ghost use Rattle.words.specs.Layout.{state_words, state_of};
+ghost use Rattle.words.specs.Packing.{packed};
 
 use crate::encoding::{either_word, entry_word, number_word, truth_word};
 use monitor::Monitor;
-use step::TruthSlot;
-use table::{EntrySlot, Table, VariableSlot};
 
 // How many words a monitor takes.
 pub const WORDS: usize = 452;
@@ -27,113 +21,33 @@ fn put_counts(n: usize, q: usize, v: usize, last: u64, state: &mut [u64])
     state[3] = last;
 }
 
-// The entries.
-fn put_entries(entries: [EntrySlot; Table::ENTRIES], state: &mut [u64])
+// The words of the slots, from place `at` on, where the closure computes f of a slot.
+fn put<T: Copy, F: Fn(T) -> u64>(state: &mut [u64], at: usize, slots: &[T], word: F)
+    requires room { at + length slots.now ≤ length state.old }
+    requires callable { F.IsAlwaysCallable word }
+    ensures { (f : T → ℕ) (d : T) → ((x : T) (r : ℕ) → F.post word x r → r ≡ f x) → state.new ≡ stored state.old at (λ k. f (slice_index_or slots.now k d)) (length slots.now) }
+{
+    for (k, slot) in slots.iter().enumerate() {
+        state[at + k] = word(*slot);
+    }
+}
+
+// The parts of a monitor, each where the last one ended: the counts, the entries, what they remember and what the variables hold and start with,
+// then the imports' sorts and last reported values, with 16 words after each that have no use.
+fn put_parts(m: &Monitor, state: &mut [u64])
     requires { length state.old ≡ state_words }
-    ensures { state.new ≡ stored state.old 4 (λ k. entry_word (slot_entry entries k)) 128 }
+    ensures { state.new ≡ state_of m.now }
 {
-    let mut k: usize = 0;
-    while k < Table::ENTRIES {
-        let slot = entries[k];
-        let e = slot.entry;
-        state[4 + k] = entry_word(e);
-        k += 1;
-    }
-}
-
-// What each entry remembers.
-fn put_cells(cells: [u64; Table::ENTRIES], state: &mut [u64])
-    requires { length state.old ≡ state_words }
-    ensures { state.new ≡ stored state.old 132 (λ k. get_or cells k 0) 128 }
-{
-    let mut k: usize = 0;
-    while k < Table::ENTRIES {
-        state[132 + k] = cells[k];
-        k += 1;
-    }
-}
-
-// A number for each variable: those that are held, and those that the variables start with.
-fn put_numbers(numbers: [VariableSlot; Table::VARIABLES], at: usize, state: &mut [u64])
-    requires { (length state.old ≡ state_words) × (at + 32 ≤ state_words) }
-    ensures { state.new ≡ stored state.old at (λ x. number_word (number_at numbers x)) 32 }
-{
-    let mut x: usize = 0;
-    while x < Table::VARIABLES {
-        let slot = numbers[x];
-        let number = slot.number;
-        state[at + x] = number_word(number);
-        x += 1;
-    }
-}
-
-// "one for each import: 1 an event, 0 a condition"
-fn put_events(events: [bool; Table::IMPORTS], state: &mut [u64])
-    requires { length state.old ≡ state_words }
-    ensures { state.new ≡ stored state.old 324 (λ i. event_word (get_or events i false)) 48 }
-{
-    let mut i: usize = 0;
-    while i < Table::IMPORTS {
-        state[324 + i] = either_word(events[i], 1, 0);
-        i += 1;
-    }
-}
-
-// The last reported value of each import.
-fn put_reported(reported: [TruthSlot; Table::IMPORTS], state: &mut [u64])
-    requires { length state.old ≡ state_words }
-    ensures { state.new ≡ stored state.old 388 (λ i. truth_word (truth_at reported i)) 48 }
-{
-    let mut i: usize = 0;
-    while i < Table::IMPORTS {
-        let slot = reported[i];
-        let truth = slot.truth;
-        state[388 + i] = truth_word(truth);
-        i += 1;
-    }
-}
-
-// The 16 words after those of the imports, which have no use: one word.
-fn put_unused(at: usize, word: u64, state: &mut [u64])
-    requires { (length state.old ≡ state_words) × (at + 16 ≤ state_words) }
-    ensures { state.new ≡ stored state.old at (λ i. word) 16 }
-{
-    let mut i: usize = 0;
-    while i < 16 {
-        state[at + i] = word;
-        i += 1;
-    }
-}
-
-// The parts that come first: the counts, the entries, what they remember and what the variables hold.
-fn put_front(m: Monitor, state: &mut [u64])
-    requires { length state.old ≡ state_words }
-    ensures { Begun state_words (word_at m) 292 state.new }
-{
-    let t = m.table;
-    let entries = t.entries;
-    let cells = m.cells;
-    let held = m.held;
+    let t = &m.table;
     put_counts(t.n, t.q, t.v, m.last, state);
-    put_entries(entries, state);
-    put_cells(cells, state);
-    put_numbers(held, 260, state);
-}
-
-// And those that come last: what the variables start with, the imports' sorts and last reported values.
-fn put_back(m: Monitor, state: &mut [u64])
-    requires { Begun state_words (word_at m) 292 state.old }
-    ensures { state.new ≡ state_of m }
-{
-    let t = m.table;
-    let initial = t.variables;
-    let events = t.events;
-    let reported = m.reported;
-    put_numbers(initial, 292, state);
-    put_events(events, state);
-    put_unused(372, 0, state);
-    put_reported(reported, state);
-    put_unused(436, 1, state);
+    put(state, 4, &t.entries, |slot| entry_word(slot.entry));
+    put(state, 132, &m.cells, |cell| cell);
+    put(state, 260, &m.held, |slot| number_word(slot.number));
+    put(state, 292, &t.variables, |slot| number_word(slot.number));
+    put(state, 324, &t.events, |event| either_word(event, 1, 0));
+    put(state, 372, &[0; 16], |word| word);
+    put(state, 388, &m.reported, |slot| truth_word(slot.truth));
+    put(state, 436, &[1; 16], |word| word);
 }
 
 // A monitor as words, in a buffer of 452; one of another size is not touched.
@@ -141,7 +55,6 @@ pub fn pack(m: Monitor, state: &mut [u64])
     ensures { state.new ≡ packed m state.old }
 {
     if state.len() == WORDS {
-        put_front(m, state);
-        put_back(m, state);
+        put_parts(&m, state);
     }
 }

@@ -1,9 +1,12 @@
 // Words back to a monitor, and whether they are those of a sound one.
-ghost use Rattle.std.specs.Prelude.{◌≡◌, ◌/◌, ◌^◌, ◌≤◌};
-ghost use Rattle.words.specs.Unpacking.{whole_of_word, number_of_word, truth_of_word, constant_of_word, of_import, first_of_word, second_of_word, entry_of_word, word_in, numbers_in, entries_in, cells_in, events_in, reported_in, monitor_in};
+ghost use Rattle.std.specs.Prelude.{◌≡◌, ℕ, ◌+◌, ◌/◌, ◌^◌, ◌≤◌};
+ghost use Rattle.bits.specs.Bits.{list_to};
+ghost use Rattle.words.specs.Layout.{state_words};
+ghost use Rattle.words.specs.Unpacking.{whole_of_word, number_of_word, truth_of_word, constant_of_word, of_import, first_of_word, second_of_word, entry_of_word, word_in, monitor_in};
 
 use kinds::made;
 use monitor::Monitor;
+use std::array;
 use step::TruthSlot;
 use table::{Entry, EntrySlot, Table, VariableSlot};
 use values::{Number, Truth};
@@ -37,13 +40,11 @@ fn number_of(word: u64) -> Number
 fn truth_of(word: u64) -> Truth
     ensures { result ≡ truth_of_word word }
 {
-    if word == 3 {
-        return Truth::True;
+    match word {
+        3 => Truth::True,
+        2 => Truth::False,
+        _ => Truth::Undefined,
     }
-    if word == 2 {
-        return Truth::False;
-    }
-    Truth::Undefined
 }
 
 // The whole number in a constant's word, 0 where it holds none.
@@ -60,13 +61,7 @@ fn constant_of(word: u64) -> i64
 fn of_import(kind: u64) -> bool
     ensures { result ≡ of_import kind }
 {
-    if kind == 0 {
-        return true;
-    }
-    if kind == 9 {
-        return true;
-    }
-    kind == 20
+    kind == 0 || kind == 9 || kind == 20
 }
 
 // The number of an entry's first operand: an import, a variable or an entry.
@@ -105,101 +100,46 @@ fn entry_of(word: u64) -> Entry
     )
 }
 
-// The slots of 32 variables from a place on.
-fn numbers_in(state: &[u64], from: usize) -> [VariableSlot; Table::VARIABLES]
-    requires { from ≤ 452 }
-    ensures { result ≡ numbers_in state.now from }
+// An array of what the words from place `from` on stand for, where the closure computes f of a word.
+fn slots_in<T, const N: usize, F: Fn(u64) -> T>(state: &[u64], from: usize, of_word: F) -> [T; N]
+    requires room { from + N ≤ state_words }
+    requires callable { F.IsAlwaysCallable of_word }
+    ensures { (f : ℕ → T) → ((w : ℕ) (r : T) → F.post of_word w r → r ≡ f w) → result ≡ list_to N (λ k. f (word_in state.now (from + k))) }
 {
-    let mut slots = [VariableSlot {
-        number: Number::Undefined,
-    }; Table::VARIABLES];
-    let mut x: usize = 0;
-    while x < Table::VARIABLES {
-        slots[x] = VariableSlot {
-            number: number_of(word(state, from + x)),
-        };
-        x += 1;
-    }
-    slots
-}
-
-// The 128 entry slots.
-fn entries_in(state: &[u64]) -> [EntrySlot; Table::ENTRIES]
-    ensures { result ≡ entries_in state.now }
-{
-    let mut slots = [EntrySlot {
-        entry: Entry::Clock,
-    }; Table::ENTRIES];
-    let mut k: usize = 0;
-    while k < Table::ENTRIES {
-        slots[k] = EntrySlot {
-            entry: entry_of(word(state, 4 + k)),
-        };
-        k += 1;
-    }
-    slots
-}
-
-// What each of the 128 entries remembers.
-fn cells_in(state: &[u64]) -> [u64; Table::ENTRIES]
-    ensures { result ≡ cells_in state.now }
-{
-    let mut cells: [u64; Table::ENTRIES] = [0; Table::ENTRIES];
-    let mut k: usize = 0;
-    while k < Table::ENTRIES {
-        cells[k] = word(state, 132 + k);
-        k += 1;
-    }
-    cells
-}
-
-// The sorts of the 48 imports.
-fn events_in(state: &[u64]) -> [bool; Table::IMPORTS]
-    ensures { result ≡ events_in state.now }
-{
-    let mut events = [false; Table::IMPORTS];
-    let mut i: usize = 0;
-    while i < Table::IMPORTS {
-        events[i] = word(state, 324 + i) == 1;
-        i += 1;
-    }
-    events
-}
-
-// The last reported value of each.
-fn reported_in(state: &[u64]) -> [TruthSlot; Table::IMPORTS]
-    ensures { result ≡ reported_in state.now }
-{
-    let mut slots = [TruthSlot {
-        truth: Truth::Undefined,
-    }; Table::IMPORTS];
-    let mut i: usize = 0;
-    while i < Table::IMPORTS {
-        slots[i] = TruthSlot {
-            truth: truth_of(word(state, 388 + i)),
-        };
-        i += 1;
-    }
-    slots
+    array::from_fn(|k| of_word(word(state, from + k)))
 }
 
 // The monitor that stands in words, whatever they are.
 pub fn monitor_in(state: &[u64]) -> Monitor
     ensures { result ≡ monitor_in state.now }
 {
-    let table = Table {
-        n: word(state, 0) as usize,
-        q: word(state, 1) as usize,
-        v: word(state, 2) as usize,
-        events: events_in(state),
-        variables: numbers_in(state, 292),
-        entries: entries_in(state),
+    let number = |word| VariableSlot {
+        number: number_of(word),
     };
     Monitor {
-        table: table,
+        table: Table {
+            n: word(state, 0) as usize,
+            q: word(state, 1) as usize,
+            v: word(state, 2) as usize,
+            events: slots_in(state, 324, |word| word == 1),
+            variables: slots_in(state, 292, number),
+            entries: slots_in(
+                state,
+                4,
+                |word| EntrySlot {
+                    entry: entry_of(word),
+                },
+            ),
+        },
         last: word(state, 3),
-        reported: reported_in(state),
-        held: numbers_in(state, 260),
-        cells: cells_in(state),
+        reported: slots_in(
+            state,
+            388,
+            |word| TruthSlot {
+                truth: truth_of(word),
+            },
+        ),
+        held: slots_in(state, 260, number),
+        cells: slots_in(state, 132, |word| word),
     }
 }

@@ -1,11 +1,7 @@
 -- The bytes so far are stored.
 use mathlib.Core.Path.{◌≡◌}
-use Prim.Native.Nat.{◌-◌, ◌≤◌}
 use Rattle.bits.specs.Window.{stored, byte_of}
 use Rattle.bits.proofs.putting.store.Given as goal
 
 abbrev pub invariant-loop-i : goal.invariant-loop-i
-invariant-loop-i l = (l.i ≤ l.count) × (l.s ≡ stored l.initial.s l.first (byte_of l.window l.count) l.i)
-
-abbrev pub decreases-loop-i : goal.decreases-loop-i
-decreases-loop-i l = l.count - l.i
+invariant-loop-i l = l.s ≡ stored l.initial.s l.first (byte_of l.window l.count) l.i

@@ -24,9 +24,6 @@ overflow_add-number-in-loop-i c = record {
 }
 
 pub loop-i-preserved : goal.loop-i-preserved
-loop-i-preserved c = (
-  omega arith,
-  rw c.loop-i.invariant.1
-      (sym (window_more c.args.s.now c.args.first c.loop-i.i
-      (omega (arith, c.shared_slice_known-1.given (c.args.first + c.loop-i.i))))),
-)
+loop-i-preserved c =
+    rw c.loop-i.invariant
+    (sym (window_more c.args.s.now c.args.first c.loop-i.i (omega (arith, c.shared_slice_known-1.given (c.args.first + c.loop-i.i)))))

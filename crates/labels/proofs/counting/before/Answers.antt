@@ -1,11 +1,16 @@
--- By the slots: 128 of them hold all the labels.
-use mathlib.Core.Path.{◌∙◌}
+-- The slots that are counted are all before k, or all that there are.
+use borrow.Author.Rules.{rules}
 use native.Mathlib.Omega.{arith}
-use Rattle.labels.specs.Counting.{labels_all}
+use Prim.Native.Nat.{ℕ}
+use mathlib.Core.Path.{◌≡◌, ◌∙◌}
+use lib.ListN.{take}
+use Rattle.std.specs.List.{count_by}
+use Rattle.labels.specs.Counting.{has_label, labels_taken}
 use Rattle.labels.proofs.counting.before.Goals as goal
 
-pub returns-else-within : goal.returns-else-within
-returns-else-within c =
-    let shape = c.shaped.ensures in
-    let a = c.args in
-    c.counted-else-within.ensures ∙ labels_all a.t 128 a.k (omega (arith, shape.entries)) (omega arith)
+pub returns : goal.returns
+returns c =
+    let t = c.args.t in
+    let n : ℕ = c.min.result in
+    let counts : c.count.result ≡ count_by has_label (take n t.entries) = search rules in
+    counts ∙ labels_taken t n c.args.k (omega arith)

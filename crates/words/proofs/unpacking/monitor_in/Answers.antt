@@ -1,6 +1,32 @@
 -- `words::unpacking::monitor_in` meets its contract: each part is read from its place.
+use borrow.Author.Rules.{rules}
+use Prim.Native.Nat.{ℕ}
+use lib.Dec.{eqb}
+use Rattle.table.specs.declared.EntrySlot.{EntrySlot}
+use Rattle.table.specs.declared.VariableSlot.{VariableSlot}
+use Rattle.step.specs.declared.TruthSlot.{TruthSlot}
+use Rattle.words.specs.Unpacking.{number_of_word, truth_of_word, entry_of_word, numbers_in, entries_in, cells_in, events_in, reported_in}
 use Rattle.words.specs.Restored.{parts_in}
 use Rattle.words.proofs.unpacking.monitor_in.Goals as goal
 
+-- the slots of a word
+abbrev entry_in : ℕ → EntrySlot
+entry_in w = record { entry = entry_of_word w }
+
+abbrev number_in : ℕ → VariableSlot
+number_in w = record { number = number_of_word w }
+
+abbrev truth_in : ℕ → TruthSlot
+truth_in w = record { truth = truth_of_word w }
+
 pub returns : goal.returns
-returns c = search parts_in
+unfolding events_in numbers_in entries_in reported_in cells_in
+returns c =
+    parts_in c.args.state.now c.word.ensures c.word-2.ensures c.word-3.ensures
+    (c.slots_in.ensures (λ w. eqb w 1) (λ w r e. search rules))
+    (c.slots_in-2.ensures number_in (λ w r e. search rules))
+    (c.slots_in-3.ensures entry_in (λ w r e. search rules))
+    c.word-4.ensures
+    (c.slots_in-4.ensures truth_in (λ w r e. search rules))
+    (c.slots_in-5.ensures number_in (λ w r e. search rules))
+    (c.slots_in-6.ensures (λ w. w) (λ w r e. search rules))

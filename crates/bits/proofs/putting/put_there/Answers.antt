@@ -3,15 +3,16 @@ use mathlib.Core.Path.{◌∙◌}
 use Prim.Native.Nat.{◌-◌, ◌*◌}
 use native.Mathlib.Omega.{arith}
 use Rattle.bits.specs.Window.{window_put, replaced_shifted}
-use Rattle.bits.proofs.putting.put_wide.Goals as goal
+use Rattle.bits.proofs.putting.put_there.Goals as goal
 
 pub returns : goal.returns
 returns c =
     let a = c.args in
-    let base = c.base_of-base.result in
-    let after = 64 - (a.at - 8 * base) - a.w in
-    window_put a.s.now a.at a.w a.v base 8 after
+    let base = c.min-base.result in
+    let count = c.min-count.result in
+    let after = 8 * count - (a.at - 8 * base) - a.w in
+    window_put a.s.now a.at a.w a.v base count after
     (λ i h. omega (arith, c.slice_known-1.given i)) (omega arith) (omega arith) (omega arith) (omega arith) (omega arith)
-    c.eight-window.ensures
-    (c.replace.ensures ∙ replaced_shifted c.eight-window.result 64 a.w after a.v (omega arith))
+    c.window_of-window.ensures
+    (c.replace.ensures ∙ replaced_shifted c.window_of-window.result 64 a.w after a.v (omega arith))
     c.store.ensures
