@@ -8,7 +8,7 @@ use bits::{signed, unsigned};
 use table::{Entry, Sort};
 
 // What an operand names: nothing, an earlier entry of a sort, an import of a sort, a variable, or a number itself.
-#[derive(Clone, Copy)]
+#[derive(Clone, Copy, Debug, PartialEq, Eq)]
 pub enum Operand {
     Nothing,
     Entry(Sort, u16),
@@ -18,7 +18,7 @@ pub enum Operand {
 }
 
 // An entry taken apart: the number of its kind, and its operands in order.
-#[derive(Clone, Copy)]
+#[derive(Clone, Copy, Debug, PartialEq, Eq)]
 pub struct Apart {
     pub kind: usize,
     pub first: Operand,

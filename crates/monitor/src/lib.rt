@@ -16,7 +16,7 @@ use table::{Table, VariableSlot};
 use values::{Outcome, Slot, Truth};
 
 // A kept time is one more than the time, and 0 where there is none.
-#[derive(Clone, Copy)]
+#[derive(Clone, Copy, Debug, PartialEq, Eq)]
 pub struct Monitor {
     pub table: Table,
     // the kept time of the last accepted step

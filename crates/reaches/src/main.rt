@@ -2,58 +2,44 @@
 #![tactic(auto)]
 
 mod editing;
-mod input;
 mod showing;
 
-ghost use Rattle.std.specs.Prelude.{◌≡◌, length};
-
-use crate::input::{after, counted, number, part, read_full, size};
-use crate::showing::say;
+use casebook::{Parts, read_full, split_part};
 use std::io;
 
-// Room for every case.
-fn room() -> [u8; 131072]
-    ensures { 131072 ≡ length result }
-{
-    [0; 131072]
+// The bytes from one on; none where there are not so many.
+fn from(s: &[u8], at: usize) -> &[u8] {
+    s.get(at..).unwrap_or(&[])
+}
+
+// Four bytes of an entry number, 0 where they are not all there.
+fn half(s: &[u8]) -> u32 {
+    s.first_chunk()
+        .map_or(0, |bytes| u32::from_be_bytes(*bytes))
 }
 
 // The reach of an entry in the table of a script, after edits: eight bytes of entry number, and the edits.
 fn asked(rt: &impl Print, script: &[u8], rest: &[u8]) -> io::Result<()> {
-    let read = reader::read(script);
-    let table = read.table;
-    let edited = editing::edited(table, part(rest, 8, rest.len()));
-    let entry = number(rest, 0) as usize;
-    showing::say_reach(rt, reacher::of_entry(edited, entry))
+    let edited = editing::edited(reader::read(script).table, from(rest, 8));
+    let entry = half(rest) as u64 * 4294967296 + half(from(rest, 4)) as u64;
+    showing::say_reach(rt, reacher::of_entry(edited, entry as usize))
 }
 
 // A case: its name, a script, and what is asked of it.
 fn one(rt: &impl Print, case: &[u8]) -> io::Result<()> {
-    let rest = after(case);
-    say(rt, counted(case))?;
-    say(rt, b": ")?;
-    asked(rt, counted(rest), after(rest))?;
-    say(rt, b"\n")
-}
-
-// Each case has its length before it.
-fn all(rt: &impl Print, cases: &[u8]) -> io::Result<()> {
-    let mut at: usize = 0;
-    while at < cases.len() {
-        let rest = &cases[at..];
-        one(rt, counted(rest))?;
-        let next = at + 2 + size(rest);
-        at = if next < cases.len() {
-            next
-        } else {
-            cases.len()
-        };
-    }
-    Ok(())
+    let (name, rest) = split_part(case);
+    let (script, rest) = split_part(rest);
+    rt.write_all(name)?;
+    rt.print(": ")?;
+    asked(rt, script, rest)?;
+    rt.print("\n")
 }
 
 fn main(rt: HostRuntime) -> io::Result<()> {
-    let mut space = room();
+    let mut space = [0; casebook::ROOM];
     let n = read_full(&mut rt.stdin(), &mut space)?;
-    all(&rt, &space[..n])
+    for case in Parts(&space[..n]) {
+        one(&rt, case)?;
+    }
+    Ok(())
 }

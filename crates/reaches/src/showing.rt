@@ -2,60 +2,43 @@
 use reach::Reach;
 use std::io;
 
-pub(crate) fn say(rt: &impl Print, words: &[u8]) -> io::Result<()> {
-    rt.write_all(words)
-}
-
-// The word for what is so, and the word for what is not.
-fn say_either(rt: &impl Print, b: bool, yes: &[u8], no: &[u8]) -> io::Result<()> {
-    if b { say(rt, yes) } else { say(rt, no) }
-}
-
 // The numbers of the marks that are set, in every slot.
 fn say_marks(rt: &impl Print, marks: &[bool]) -> io::Result<()> {
-    let mut i: usize = 0;
-    while i < marks.len() {
-        if marks[i] {
-            say(rt, b" ")?;
-            rt.print(i)?;
+    for (i, marked) in marks.iter().enumerate() {
+        if *marked {
+            print!(rt; " {i}")?;
         }
-        i += 1;
     }
     Ok(())
 }
 
 // Whether a mark is set in any slot.
 fn marked(marks: &[bool]) -> bool {
-    let mut i: usize = 0;
-    while i < marks.len() {
-        if marks[i] {
-            return true;
-        }
-        i += 1;
-    }
-    false
+    marks.contains(&true)
 }
 
 // "A reach shows all three: its entries, its imports and whether it has the clock."
 fn say_reached(rt: &impl Print, r: Reach) -> io::Result<()> {
-    say(rt, b"reached | entries")?;
+    rt.print("reached | entries")?;
     say_marks(rt, &r.entries)?;
-    say(rt, b" | imports")?;
+    rt.print(" | imports")?;
     say_marks(rt, &r.imports)?;
-    say(rt, b" | clock ")?;
-    say_either(rt, r.clock, b"yes", b"no")
+    rt.print(if r.clock {
+        " | clock yes"
+    } else {
+        " | clock no"
+    })
 }
 
 // "A refused reach returns no marks."
 fn say_refused(rt: &impl Print, r: Reach, number: u8) -> io::Result<()> {
-    say(rt, b"refused ")?;
+    rt.print("refused ")?;
     rt.print(number)?;
-    say_either(
-        rt,
-        marked(&r.entries) || marked(&r.imports) || r.clock,
-        b", marks",
-        b", no marks",
-    )
+    rt.print(if marked(&r.entries) || marked(&r.imports) || r.clock {
+        ", marks"
+    } else {
+        ", no marks"
+    })
 }
 
 pub(crate) fn say_reach(rt: &impl Print, r: Reach) -> io::Result<()> {

@@ -10,7 +10,7 @@ use table::Table;
 use values::{Number, Truth};
 
 // What a step tells of an import: nothing, a condition's value, or that an event occurs, with its value.
-#[derive(Clone, Copy)]
+#[derive(Clone, Copy, Debug, PartialEq, Eq)]
 pub enum Told {
     Nothing,
     Condition(Truth),
@@ -18,13 +18,13 @@ pub enum Told {
 }
 
 // What a step tells of one import.
-#[derive(Clone, Copy)]
+#[derive(Clone, Copy, Debug, PartialEq, Eq)]
 pub struct ToldSlot {
     pub told: Told,
 }
 
 // The last reported value of one import.
-#[derive(Clone, Copy)]
+#[derive(Clone, Copy, Debug, PartialEq, Eq)]
 pub struct TruthSlot {
     pub truth: Truth,
 }

@@ -1,23 +1,25 @@
 // A script read and a monitor started on its table; steps taken by a monitor.
-use crate::sameness::{same_monitor, same_table};
-use crate::showing::{say, say_either, say_nothings, say_number, say_results};
+use crate::showing::{say_nothings, say_results};
 use monitor::{Monitor, Stepped};
 use std::io;
 use table::Table;
 
 fn say_refused(rt: &impl Print, number: u8) -> io::Result<()> {
-    say(rt, b"refused ")?;
-    say_number(rt, number as u64)
+    rt.print("refused ")?;
+    rt.print(number)
 }
 
 // The time of the last accepted step, which is kept as one more.
 fn say_last(rt: &impl Print, last: u64) -> io::Result<()> {
-    say(rt, b", last ")?;
-    if last == 0 {
-        say(rt, b"none")
-    } else {
-        say_number(rt, last - 1)
+    match last.checked_sub(1) {
+        None => rt.print(", last none"),
+        Some(time) => print!(rt; ", last {time}"),
     }
+}
+
+// Whether a monitor holds a table.
+fn say_table(rt: &impl Print, m: Monitor, t: Table, same: &str) -> io::Result<()> {
+    rt.print(if m.table == t { same } else { "another table" })
 }
 
 // "A start on a table at fault gives 29 and the monitor of the empty table"
@@ -25,21 +27,15 @@ fn start(rt: &impl Print, t: Table) -> io::Result<Monitor> {
     let started = monitor::start(t);
     let answer = started.answer;
     let m = started.monitor;
-    let held = m.table;
     let number = parts::outcome(answer);
     if number == 0 {
-        say(rt, b"start accepted, ")?;
-        say_either(rt, same_table(held, t), b"same table", b"another table")?;
+        rt.print("start accepted, ")?;
+        say_table(rt, m, t, "same table")?;
     } else {
-        say(rt, b"start ")?;
+        rt.print("start ")?;
         say_refused(rt, number)?;
-        say(rt, b", ")?;
-        say_either(
-            rt,
-            same_table(held, Table::empty()),
-            b"empty table",
-            b"another table",
-        )?;
+        rt.print(", ")?;
+        say_table(rt, m, Table::empty(), "empty table")?;
     }
     say_last(rt, m.last)?;
     Ok(m)
@@ -51,51 +47,39 @@ pub(crate) fn read(rt: &impl Print, s: &[u8]) -> io::Result<Monitor> {
     let answer = script.answer;
     let table = script.table;
     let number = parts::outcome(answer);
-    say(rt, b"script ")?;
+    rt.print("script ")?;
     if number == 0 {
-        say_number(rt, table.n as u64)?;
+        rt.print(table.n)?;
     } else {
         say_refused(rt, number)?;
     }
-    say(rt, b", ")?;
+    rt.print(", ")?;
     start(rt, table)
 }
 
 // A start on the table of a monitor.
 pub(crate) fn again(rt: &impl Print, m: Monitor) -> io::Result<Monitor> {
-    let table = m.table;
-    start(rt, table)
+    start(rt, m.table)
 }
 
 // "an accepted step's monitor holds the same table and that step's time as the last"
 fn say_accepted(rt: &impl Print, m: Monitor, r: Stepped) -> io::Result<()> {
-    let before = m.table;
-    let next = r.monitor;
-    let after = next.table;
-    say(rt, b"accepted, ")?;
-    say_either(
-        rt,
-        same_table(before, after),
-        b"same table",
-        b"another table",
-    )?;
-    say_last(rt, next.last)?;
-    say(rt, b" |")?;
-    say_results(rt, r, before.n)?;
-    say_nothings(rt, r, before.n)
+    rt.print("accepted, ")?;
+    say_table(rt, r.monitor, m.table, "same table")?;
+    say_last(rt, r.monitor.last)?;
+    rt.print(" |")?;
+    say_results(rt, r, m.table.n)?;
+    say_nothings(rt, r, m.table.n)
 }
 
 // "A refused step returns the monitor unchanged and 128 times 'no result'."
 fn say_unchanged(rt: &impl Print, m: Monitor, r: Stepped) -> io::Result<()> {
-    let next = r.monitor;
-    say(rt, b", ")?;
-    say_either(
-        rt,
-        same_monitor(m, next),
-        b"same monitor",
-        b"another monitor",
-    )?;
-    say_last(rt, next.last)?;
+    rt.print(if r.monitor == m {
+        ", same monitor"
+    } else {
+        ", another monitor"
+    })?;
+    say_last(rt, r.monitor.last)?;
     say_nothings(rt, r, 0)
 }
 

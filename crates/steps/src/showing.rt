@@ -1,117 +1,59 @@
-// Results and numbers as text.
-ghost use Rattle.std.specs.Prelude.{◌≤◌};
-
+// Results as text.
 use monitor::Stepped;
-use std::io;
-use table::Table;
-use values::{Number, Outcome, Truth};
+use std::{fmt, io};
+use values::{Number, Outcome, Slot, Truth};
 
-pub(crate) fn say(rt: &impl Print, words: &[u8]) -> io::Result<()> {
-    rt.write_all(words)
-}
+// A result in one word: document 01's, but "-" for an event that does not occur.
+#[derive(Clone, Copy)]
+struct Word(Outcome);
 
-pub(crate) fn say_number(rt: &impl Print, n: u64) -> io::Result<()> {
-    rt.print(n)
-}
-
-// A whole number; a negative one is its two's complement less 2^48.
-fn say_whole(rt: &impl Print, z: i64) -> io::Result<()> {
-    let v = bits::unsigned(z);
-    if 0 <= z {
-        return say_number(rt, v);
-    }
-    if v <= 281474976710656 {
-        say(rt, b"-")?;
-        say_number(rt, 281474976710656 - v)?;
-    }
-    Ok(())
-}
-
-// The word for what is so, and the word for what is not.
-pub(crate) fn say_either(rt: &impl Print, b: bool, yes: &[u8], no: &[u8]) -> io::Result<()> {
-    if b { say(rt, yes) } else { say(rt, no) }
-}
-
-// "A condition is true, false or undefined."
-fn say_truth(rt: &impl Print, t: Truth) -> io::Result<()> {
-    match t {
-        Truth::Undefined => say(rt, b"undefined"),
-        Truth::False => say(rt, b"false"),
-        Truth::True => say(rt, b"true"),
-    }
+// The word for what is so, or the word for what is not.
+fn either(so: bool, yes: &'static str, no: &'static str) -> &'static str {
+    if so { yes } else { no }
 }
 
 // "A property is violated where its condition is false; undefined is reported as not known."
-fn say_property(rt: &impl Print, t: Truth) -> io::Result<()> {
+fn property(t: Truth) -> &'static str {
     match t {
-        Truth::Undefined => say(rt, b"not-known"),
-        Truth::False => say(rt, b"violated"),
-        Truth::True => say(rt, b"not-violated"),
+        Truth::Undefined => "not-known",
+        Truth::False => "violated",
+        Truth::True => "not-violated",
     }
 }
 
-// "A number is undefined or a whole number"
-fn say_numeric(rt: &impl Print, n: Number) -> io::Result<()> {
-    match n {
-        Number::Undefined => say(rt, b"undefined-number"),
-        Number::Whole(z) => say_whole(rt, z),
-    }
-}
-
-// A result in one word: document 01's, but "-" for an event that does not occur.
-fn say_outcome(rt: &impl Print, o: Outcome) -> io::Result<()> {
-    match o {
-        Outcome::Nothing => say(rt, b"no-result"),
-        Outcome::Condition(c) => say_truth(rt, c),
-        Outcome::Event(b) => say_either(rt, b, b"occurs", b"-"),
-        Outcome::Numeric(x) => say_numeric(rt, x),
-        Outcome::Done(b) => say_either(rt, b, b"done", b"not-done"),
-        Outcome::Raised(b) => say_either(rt, b, b"raised", b"not-raised"),
-        Outcome::Property(c) => say_property(rt, c),
-    }
-}
-
-// 1 for "no result", 0 for any other.
-fn nothing(o: Outcome) -> usize
-    ensures { result ≤ 1 }
-{
-    match o {
-        Outcome::Nothing => 1,
-        Outcome::Condition(c) => 0,
-        Outcome::Event(b) => 0,
-        Outcome::Numeric(x) => 0,
-        Outcome::Done(b) => 0,
-        Outcome::Raised(b) => 0,
-        Outcome::Property(c) => 0,
+impl fmt::Display for Word {
+    fn fmt<W: fmt::Write>(&self, f: &mut fmt::Formatter<W>) -> fmt::Result {
+        match self.0 {
+            Outcome::Nothing => f.write_str("no-result"),
+            Outcome::Condition(c) => write!(f, "{c}"),
+            Outcome::Event(b) => f.write_str(either(b, "occurs", "-")),
+            Outcome::Numeric(Number::Undefined) => f.write_str("undefined-number"),
+            Outcome::Numeric(x) => write!(f, "{x}"),
+            Outcome::Done(b) => f.write_str(either(b, "done", "not-done")),
+            Outcome::Raised(b) => f.write_str(either(b, "raised", "not-raised")),
+            Outcome::Property(c) => f.write_str(property(c)),
+        }
     }
 }
 
 // The results of the first n slots.
 pub(crate) fn say_results(rt: &impl Print, r: Stepped, n: usize) -> io::Result<()> {
-    let mut k: usize = 0;
-    while k < Table::ENTRIES {
-        let slot = r.results[k];
-        let outcome = slot.outcome;
-        if k < n {
-            say(rt, b" ")?;
-            say_outcome(rt, outcome)?;
-        }
-        k += 1;
+    for slot in r.results.iter().take(n) {
+        print!(rt; " {}", Word(slot.outcome))?;
     }
     Ok(())
 }
 
 // How many of the slots from n on hold "no result".
 pub(crate) fn say_nothings(rt: &impl Print, r: Stepped, n: usize) -> io::Result<()> {
-    let mut count: usize = 0;
-    let mut k = n;
-    while k < Table::ENTRIES {
-        let slot = r.results[k];
-        let outcome = slot.outcome;
-        count += nothing(outcome);
-        k += 1;
-    }
-    say(rt, b" | ")?;
-    say_number(rt, count as u64)?;
-    say(rt, b" no result")
+    let nothing = Slot {
+        outcome: Outcome::Nothing,
+    };
+    let count = r
+        .results
+        .iter()
+        .skip(n)
+        .filter(|slot| **slot == nothing)
+        .count();
+    print!(rt; " | {count} no result")
 }

@@ -5,3 +5,4 @@ pub mod Kinds
 pub mod Tables
 pub mod Faults
 pub mod Sound
+pub mod Texts

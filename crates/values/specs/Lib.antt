@@ -3,3 +3,4 @@ pub mod Truths
 pub mod Numbers
 pub mod Outcomes
 pub mod Adding
+pub mod Texts

@@ -3,6 +3,7 @@
 
 mod numbers;
 mod outcomes;
+mod texts;
 mod truths;
 
 // "A condition is true, false or undefined."

@@ -1,62 +1,29 @@
 // Every row of table 4.2, and of "and" and "implies".
-use crate::{gives, say, say_truth};
 use std::io;
 use values::Truth;
 
-#[derive(Clone, Copy)]
-enum Operator {
-    Or,
-    And,
-    Implies,
-}
+const TRUTHS: [Truth; 3] = [Truth::Undefined, Truth::False, Truth::True];
 
-fn not(rt: &impl Print, a: Truth) -> io::Result<()> {
-    say(rt, b"not ")?;
-    say_truth(rt, a)?;
-    gives(rt, a.not())
-}
-
-fn defined(rt: &impl Print, a: Truth) -> io::Result<()> {
-    say(rt, b"defined ")?;
-    say_truth(rt, a)?;
-    gives(rt, a.defined())
-}
-
-fn row(rt: &impl Print, o: Operator, a: Truth, b: Truth) -> io::Result<()> {
-    say_truth(rt, a)?;
-    match o {
-        Operator::Or => say(rt, b" or ")?,
-        Operator::And => say(rt, b" and ")?,
-        Operator::Implies => say(rt, b" implies ")?,
+// A line for each pair of operands.
+fn table<F: Fn(Truth, Truth) -> Truth>(rt: &impl Print, word: &str, operator: F) -> io::Result<()>
+    requires { F.IsAlwaysCallable operator }
+{
+    for a in TRUTHS {
+        for b in TRUTHS {
+            println!(rt; "{a} {word} {b}: {}", operator(a, b))?;
+        }
     }
-    say_truth(rt, b)?;
-    match o {
-        Operator::Or => gives(rt, a.or(b)),
-        Operator::And => gives(rt, a.and(b)),
-        Operator::Implies => gives(rt, a.implies(b)),
-    }
-}
-
-fn rows(rt: &impl Print, o: Operator, a: Truth) -> io::Result<()> {
-    row(rt, o, a, Truth::Undefined)?;
-    row(rt, o, a, Truth::False)?;
-    row(rt, o, a, Truth::True)
-}
-
-fn table(rt: &impl Print, o: Operator) -> io::Result<()> {
-    rows(rt, o, Truth::Undefined)?;
-    rows(rt, o, Truth::False)?;
-    rows(rt, o, Truth::True)
+    Ok(())
 }
 
 pub fn all(rt: &impl Print) -> io::Result<()> {
-    not(rt, Truth::Undefined)?;
-    not(rt, Truth::False)?;
-    not(rt, Truth::True)?;
-    defined(rt, Truth::Undefined)?;
-    defined(rt, Truth::False)?;
-    defined(rt, Truth::True)?;
-    table(rt, Operator::Or)?;
-    table(rt, Operator::And)?;
-    table(rt, Operator::Implies)
+    for a in TRUTHS {
+        println!(rt; "not {a}: {}", a.not())?;
+    }
+    for a in TRUTHS {
+        println!(rt; "defined {a}: {}", a.defined())?;
+    }
+    table(rt, "or", |a, b| a.or(b))?;
+    table(rt, "and", |a, b| a.and(b))?;
+    table(rt, "implies", |a, b| a.implies(b))
 }

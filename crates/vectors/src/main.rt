@@ -2,30 +2,10 @@
 #![tactic(auto)]
 
 use std::io;
-use values::Truth;
 
 mod conditions;
 mod numbering;
 mod numbers;
-
-pub fn say(rt: &impl Print, words: &[u8]) -> io::Result<()> {
-    rt.write_all(words)
-}
-
-pub fn say_truth(rt: &impl Print, t: Truth) -> io::Result<()> {
-    match t {
-        Truth::Undefined => say(rt, b"undefined"),
-        Truth::False => say(rt, b"false"),
-        Truth::True => say(rt, b"true"),
-    }
-}
-
-// The rest of a line whose result is t.
-pub fn gives(rt: &impl Print, t: Truth) -> io::Result<()> {
-    say(rt, b": ")?;
-    say_truth(rt, t)?;
-    say(rt, b"\n")
-}
 
 fn main(rt: HostRuntime) -> io::Result<()> {
     conditions::all(&rt)?;

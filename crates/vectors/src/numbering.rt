@@ -1,15 +1,14 @@
 // The number of each refusal.
-use crate::say;
 use refusals::Refusal;
 use std::io;
 
 fn one(rt: &impl Print, r: Refusal) -> io::Result<()> {
-    say(rt, b" ")?;
+    rt.print(" ")?;
     rt.print(refusals::number(r))
 }
 
 fn of_a_script(rt: &impl Print) -> io::Result<()> {
-    say(rt, b"script:")?;
+    rt.print("script:")?;
     one(rt, Refusal::TooLong)?;
     one(rt, Refusal::Cut)?;
     one(rt, Refusal::Format)?;
@@ -27,11 +26,11 @@ fn of_a_script(rt: &impl Print) -> io::Result<()> {
     one(rt, Refusal::LeftOver)?;
     one(rt, Refusal::NoRoom)?;
     one(rt, Refusal::Range)?;
-    say(rt, b"\n")
+    rt.print("\n")
 }
 
 fn of_a_step(rt: &impl Print) -> io::Result<()> {
-    say(rt, b"step:")?;
+    rt.print("step:")?;
     one(rt, Refusal::StepCut)?;
     one(rt, Refusal::Time)?;
     one(rt, Refusal::StepImport)?;
@@ -41,7 +40,7 @@ fn of_a_step(rt: &impl Print) -> io::Result<()> {
     one(rt, Refusal::StepLeftOver)?;
     one(rt, Refusal::Unsound)?;
     one(rt, Refusal::NoEntry)?;
-    say(rt, b"\n")
+    rt.print("\n")
 }
 
 pub fn all(rt: &impl Print) -> io::Result<()> {

@@ -1,6 +1,5 @@
 // Sums, differences, less and equal at the ends of the number range and of 64 bits.
-use crate::{gives, say};
-use std::io;
+use std::{fmt, io};
 use values::{Number, Truth};
 
 // -2^47 and 2^47-1
@@ -12,113 +11,99 @@ const LEAST: i64 = -9223372036854775808;
 
 const MOST: i64 = 9223372036854775807;
 
-fn say_whole(rt: &impl Print, z: i64) -> io::Result<()> {
-    match z {
-        LEAST => say(rt, b"-2^63"),
-        -140737488355329 => say(rt, b"-2^47-1"),
-        LOW => say(rt, b"-2^47"),
-        -1 => say(rt, b"-1"),
-        0 => say(rt, b"0"),
-        1 => say(rt, b"1"),
-        3 => say(rt, b"3"),
-        HIGH => say(rt, b"2^47-1"),
-        140737488355328 => say(rt, b"2^47"),
-        MOST => say(rt, b"2^63-1"),
-        _ => say(rt, b"another number"),
-    }
-}
+// A number under the name that it has in the lines.
+#[derive(Clone, Copy)]
+struct Named(Number);
 
-fn say_number(rt: &impl Print, n: Number) -> io::Result<()> {
-    match n {
-        Number::Undefined => say(rt, b"undefined"),
-        Number::Whole(z) => say_whole(rt, z),
+impl fmt::Display for Named {
+    fn fmt<W: fmt::Write>(&self, f: &mut fmt::Formatter<W>) -> fmt::Result {
+        let Number::Whole(z) = self.0 else {
+            return f.write_str("undefined");
+        };
+        f.write_str(match z {
+            LEAST => "-2^63",
+            -140737488355329 => "-2^47-1",
+            LOW => "-2^47",
+            -1 => "-1",
+            0 => "0",
+            1 => "1",
+            3 => "3",
+            HIGH => "2^47-1",
+            140737488355328 => "2^47",
+            MOST => "2^63-1",
+            _ => "another number",
+        })
     }
 }
 
 fn sum(rt: &impl Print, a: i64, b: i64) -> io::Result<()> {
-    say_whole(rt, a)?;
-    say(rt, b" + ")?;
-    say_whole(rt, b)?;
-    say(rt, b": ")?;
-    say_number(rt, Number::Whole(a).sum(Number::Whole(b)))?;
-    say(rt, b"\n")
+    let (a, b) = (Number::Whole(a), Number::Whole(b));
+    println!(rt; "{} + {}: {}", Named(a), Named(b), Named(a.sum(b)))
 }
 
 fn difference(rt: &impl Print, a: i64, b: i64) -> io::Result<()> {
-    say_whole(rt, a)?;
-    say(rt, b" - ")?;
-    say_whole(rt, b)?;
-    say(rt, b": ")?;
-    say_number(rt, Number::Whole(a).difference(Number::Whole(b)))?;
-    say(rt, b"\n")
+    let (a, b) = (Number::Whole(a), Number::Whole(b));
+    println!(rt; "{} - {}: {}", Named(a), Named(b), Named(a.difference(b)))
 }
 
 fn compared(rt: &impl Print, a: Number, b: Number) -> io::Result<()> {
-    say_number(rt, a)?;
-    say(rt, b" less ")?;
-    say_number(rt, b)?;
-    gives(rt, a.less(b))?;
-    say_number(rt, a)?;
-    say(rt, b" equal ")?;
-    say_number(rt, b)?;
-    gives(rt, a.equal(b))
+    println!(rt; "{} less {}: {}", Named(a), Named(b), a.less(b))?;
+    println!(rt; "{} equal {}: {}", Named(a), Named(b), a.equal(b))
 }
 
 fn in_range(rt: &impl Print, n: Number) -> io::Result<()> {
-    say_number(rt, n)?;
-    say(rt, b" in range")?;
-    gives(
-        rt,
-        if n.in_range() {
-            Truth::True
-        } else {
-            Truth::False
-        },
-    )
+    println!(rt; "{} in range: {}", Named(n), Truth::of(n.in_range()))
 }
 
 fn sums(rt: &impl Print) -> io::Result<()> {
-    sum(rt, HIGH, 1)?;
-    sum(rt, HIGH, 0)?;
-    sum(rt, LOW, -1)?;
-    sum(rt, LOW, HIGH)?;
-    sum(rt, MOST, MOST)?;
-    sum(rt, LEAST, LEAST)?;
-    sum(rt, MOST, LEAST)?;
-    sum(rt, LEAST, MOST)
+    for (a, b) in [
+        (HIGH, 1),
+        (HIGH, 0),
+        (LOW, -1),
+        (LOW, HIGH),
+        (MOST, MOST),
+        (LEAST, LEAST),
+        (MOST, LEAST),
+        (LEAST, MOST),
+    ] {
+        sum(rt, a, b)?;
+    }
+    Ok(())
 }
 
 fn differences(rt: &impl Print) -> io::Result<()> {
-    difference(rt, LOW, 1)?;
-    difference(rt, 0, LOW)?;
-    difference(rt, -1, LOW)?;
-    difference(rt, 0, HIGH + 1)?;
-    difference(rt, HIGH, HIGH)?;
-    difference(rt, MOST, LEAST)?;
-    difference(rt, LEAST, MOST)?;
-    difference(rt, LEAST, LEAST)?;
-    difference(rt, MOST, MOST)
+    for (a, b) in [
+        (LOW, 1),
+        (0, LOW),
+        (-1, LOW),
+        (0, HIGH + 1),
+        (HIGH, HIGH),
+        (MOST, LEAST),
+        (LEAST, MOST),
+        (LEAST, LEAST),
+        (MOST, MOST),
+    ] {
+        difference(rt, a, b)?;
+    }
+    Ok(())
 }
 
 fn comparisons(rt: &impl Print) -> io::Result<()> {
     compared(rt, Number::Undefined, Number::Whole(3))?;
     compared(rt, Number::Whole(3), Number::Undefined)?;
     compared(rt, Number::Undefined, Number::Undefined)?;
-    compared(rt, Number::Whole(LOW), Number::Whole(HIGH))?;
-    compared(rt, Number::Whole(HIGH), Number::Whole(LOW))?;
-    compared(rt, Number::Whole(LOW), Number::Whole(LOW))?;
-    compared(rt, Number::Whole(HIGH), Number::Whole(HIGH))?;
-    compared(rt, Number::Whole(-1), Number::Whole(0))
+    for (a, b) in [(LOW, HIGH), (HIGH, LOW), (LOW, LOW), (HIGH, HIGH), (-1, 0)] {
+        compared(rt, Number::Whole(a), Number::Whole(b))?;
+    }
+    Ok(())
 }
 
 fn ranges(rt: &impl Print) -> io::Result<()> {
     in_range(rt, Number::Undefined)?;
-    in_range(rt, Number::Whole(HIGH))?;
-    in_range(rt, Number::Whole(HIGH + 1))?;
-    in_range(rt, Number::Whole(LOW))?;
-    in_range(rt, Number::Whole(LOW - 1))?;
-    in_range(rt, Number::Whole(MOST))?;
-    in_range(rt, Number::Whole(LEAST))
+    for z in [HIGH, HIGH + 1, LOW, LOW - 1, MOST, LEAST] {
+        in_range(rt, Number::Whole(z))?;
+    }
+    Ok(())
 }
 
 pub fn all(rt: &impl Print) -> io::Result<()> {

@@ -19,7 +19,7 @@ returns g c =
     let room = c.read_full.new.room in
     let long = c.read_full.ensures.long in
     let n = c.in_ok-n.n in
-    let same = first_shown _ _ room n (omega (arith, long, c.script_room-script.ensures)) (omega (arith, long, c.in_ok-n.ensures.within)) c.in_ok-n.ensures.bytes
+    let same = first_shown _ _ room n (omega (arith, long)) (omega (arith, long, c.in_ok-n.ensures.within)) c.in_ok-n.ensures.bytes
     (λ less. c.in_ok-n.ensures.end (omega (arith, long))) in
-    let whole = shown_whole _ _ _ _ (omega (arith, c.lines_room-shown.ensures)) c.lines-m.ensures.lays in
+    let whole = shown_whole _ _ _ _ (omega arith) c.lines-m.ensures.lays in
     written c.write_all.result _ _ _ _ _ same whole c.write_all.ensures.bytes

@@ -1,0 +1,2 @@
+-- What a case of the test programs is.
+pub mod Cases
