@@ -3,7 +3,6 @@ pub mod Leaving
 pub mod Alarms
 pub mod Starting
 pub mod Stepping
-pub mod Clearing
 pub mod Labelling
 pub mod Reaching
 pub mod Marking

@@ -16,12 +16,10 @@ fn calls(word: u64) -> bool
 pub fn nimbra_next_alarm(results: &[u64], from: u64) -> u64
     ensures { result ≡ next_alarm results.now from }
 {
-    let mut k: usize = from as usize;
-    while k < results.len() {
+    for k in from as usize..results.len() {
         if calls(results[k]) {
             return k as u64;
         }
-        k += 1;
     }
     results.len() as u64
 }

@@ -13,10 +13,8 @@ fn put_marks(marks: &[bool], at: usize, out: &mut [u8])
     requires { at + length marks.now ≤ length out.old }
     ensures { out.new ≡ stored out.old at (λ k. mark_byte (get_or marks.now k false)) (length marks.now) }
 {
-    let mut k: usize = 0;
-    while k < marks.len() {
-        out[at + k] = marks[k] as u8;
-        k += 1;
+    for (k, marked) in marks.iter().enumerate() {
+        out[at + k] = *marked as u8;
     }
 }
 
@@ -25,10 +23,8 @@ fn put_reach(found: Reach, out: &mut [u8])
     requires { (length out.old ≡ 177) × Slotted found }
     ensures { out.new ≡ mark_bytes found }
 {
-    let entries = found.entries;
-    let imports = found.imports;
-    put_marks(&entries, 0, out);
-    put_marks(&imports, 128, out);
+    put_marks(&found.entries, 0, out);
+    put_marks(&found.imports, 128, out);
     out[176] = found.clock as u8;
 }
 
@@ -62,8 +58,7 @@ pub fn nimbra_reach(state: &[u64], entry: u64, marks: &mut [u8]) -> u8
         Err(r) => refusals::number(r),
         Ok(()) => {
             let m = words::monitor_in(state);
-            let table = m.table;
-            show_reach(reacher::of_entry(table, entry as usize), marks)
+            show_reach(reacher::of_entry(m.table, entry as usize), marks)
         }
     }
 }

@@ -18,10 +18,8 @@ pub fn nimbra_start(script: &[u8], state: &mut [u64]) -> u8
     match answer {
         Err(r) => refusals::number(r),
         Ok(()) => {
-            let table = read.table;
-            let started = monitor::start(table);
-            let fresh = started.monitor;
-            words::pack(fresh, state);
+            let started = monitor::start(read.table);
+            words::pack(started.monitor, state);
             0
         }
     }

@@ -1,28 +1,16 @@
 // A step of a monitor in words, taken in place.
 ghost use Rattle.std.specs.Prelude.{◌≡◌, length};
-ghost use Rattle.door.specs.Stepping.{no_words, step_door, StepLeaves, StepsOn, Held};
+ghost use Rattle.door.specs.Stepping.{step_door, StepLeaves, StepsOn, Held};
 
 use crate::WRONG_SIZE;
 use words::WORDS;
 
-// 128 times "no result".
-fn clear(results: &mut [u64])
-    requires { length results.old ≡ 128 }
-    ensures { results.new ≡ no_words }
-{
-    let mut k: usize = 0;
-    while k < 128 {
-        results[k] = 0;
-        k += 1;
-    }
-}
-
-// A step over 128 slots: on the words of a sound monitor, the reply, the words and the results of that monitor's step.
+// A step over 128 slots, which hold "no result" before it: on the words of a sound monitor, the reply, the words and the results of that monitor's step.
 fn step_on(state: &mut [u64], step: &[u8], results: &mut [u64]) -> u8
     requires { length results.old ≡ 128 }
     ensures { StepsOn step.now result state.old state.new results.new }
 {
-    clear(results);
+    results.fill(0);
     parts::outcome(inplace::take(state, step, results))
 }
 

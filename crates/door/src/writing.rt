@@ -37,8 +37,7 @@ pub fn nimbra_write(state: &[u64], labels: &[u8], out: &mut [u8], size: &mut [u6
         Err(r) => refusals::number(r),
         Ok(()) => {
             let m = words::monitor_in(state);
-            let table = m.table;
-            show_size(writer::write(table, labels, out), size)
+            show_size(writer::write(m.table, labels, out), size)
         }
     }
 }

@@ -23,10 +23,8 @@ fn keep_reports(state: &mut [u64], told: &[u64], q: usize)
     requires { (length state.old ≡ 452) × (length told.now ≡ 64) × (q ≤ 48) }
     ensures { Reported told.now q state.old state.new }
 {
-    let mut i: usize = 0;
-    while i < q {
+    for i in 0..q {
         state[388 + i] = report_word(told[i], state[388 + i]);
-        i += 1;
     }
 }
 

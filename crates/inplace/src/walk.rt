@@ -47,10 +47,8 @@ pub(crate) fn walk(state: &mut [u64], told: &[u64], results: &mut [u64], n: usiz
     requires { (length state.old ≡ 452) × (length told.now ≡ 64) × (length results.old ≡ 128) × (n ≤ 128) × (time < 2 ^ 47) }
     ensures { Walked told.now time n state.old results.old state.new results.new }
 {
-    let mut k: usize = 0;
-    while k < n {
+    for k in 0..n {
         take_entry(state, told, results, k, time);
-        k += 1;
     }
 }
 

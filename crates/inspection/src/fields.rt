@@ -18,10 +18,8 @@ pub(crate) fn put_marks(out: &mut [u8], at: usize, marks: &[bool]) -> usize
     ensures { Lays out.old at (marks_text 0 marks.now) out.new result }
 {
     let mut next = at;
-    let mut i: usize = 0;
-    while i < marks.len() {
-        next = put_mark(out, next, i, marks[i]);
-        i += 1;
+    for (i, marked) in marks.iter().enumerate() {
+        next = put_mark(out, next, i, *marked);
     }
     next
 }

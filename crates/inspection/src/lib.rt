@@ -17,8 +17,7 @@ fn entry_lines(s: &[u8], t: Table, k: usize, out: &mut [u8], at: usize) -> usize
     requires { k < 128 }
     ensures { Lays out.old at (lines_at s.now t k) out.new result }
 {
-    let slot = t.entries[k];
-    let e = slot.entry;
+    let e = t.entries[k].entry;
     if labels::labelled(e) {
         return rule_lines(s, k, e, reacher::of_entry(t, k), out, at);
     }
@@ -31,10 +30,8 @@ fn rules(s: &[u8], t: Table, out: &mut [u8], from: usize) -> usize
     ensures { Lays out.old from (rules_to s.now t t.n) out.new result }
 {
     let mut at = from;
-    let mut k: usize = 0;
-    while k < t.n {
+    for k in 0..t.n {
         at = entry_lines(s, t, k, out, at);
-        k += 1;
     }
     at
 }
@@ -48,9 +45,8 @@ pub fn lines(script: &[u8], out: &mut [u8]) -> usize
     let answer = read.answer;
     match answer {
         Ok(()) => {
-            let t = read.table;
-            let at = lines::put_script(out, 0, t.n);
-            rules(script, t, out, at)
+            let at = lines::put_script(out, 0, read.table.n);
+            rules(script, read.table, out, at)
         }
         Err(r) => lines::put_script_refused(out, 0, r),
     }

@@ -25,10 +25,7 @@ pub struct Judged {
 fn keep(outcome: u64, cell: u64) -> Judged
     ensures { (result.outcome ≡ outcome) × (result.cell ≡ cell) }
 {
-    Judged {
-        outcome: outcome,
-        cell: cell,
-    }
+    Judged { outcome, cell }
 }
 
 // An entry by its word w, by the words x and y at its operand entries, by what the step and the variables tell it, and by what it remembers.

@@ -29,10 +29,8 @@ pub fn put(out: &mut [u8], at: usize, text: &[u8]) -> usize
     ensures { Lays out.old at text.now out.new result }
 {
     let mut next = at;
-    let mut i: usize = 0;
-    while i < text.len() {
-        next = put_byte(out, next, text[i]);
-        i += 1;
+    for b in text {
+        next = put_byte(out, next, *b);
     }
     next
 }

@@ -17,11 +17,8 @@ fn entry_named(o: Operand) -> usize
     ensures { result ≡ entry_named o }
 {
     match o {
-        Operand::Nothing => Table::ENTRIES,
         Operand::Entry(_, a) => a as usize,
-        Operand::Imported(_, _) => Table::ENTRIES,
-        Operand::Variable(_) => Table::ENTRIES,
-        Operand::Constant(_) => Table::ENTRIES,
+        _ => Table::ENTRIES,
     }
 }
 
@@ -35,12 +32,10 @@ fn add(
     requires { Room (found marks.old order.old count) }
     ensures { Adds (found marks.old order.old count) (j ∷ []) (found marks.new order.new result) }
 {
-    if j < Table::ENTRIES {
-        if !marks[j] {
-            marks[j] = true;
-            order[count] = j as u16;
-            return count + 1;
-        }
+    if j < Table::ENTRIES && !marks[j] {
+        marks[j] = true;
+        order[count] = j as u16;
+        return count + 1;
     }
     count
 }
@@ -55,12 +50,9 @@ fn add_operands(
     requires { Room (found marks.old order.old count) }
     ensures { Adds (found marks.old order.old count) (entries_named parts) (found marks.new order.new result) }
 {
-    let first = parts.first;
-    let second = parts.second;
-    let third = parts.third;
-    let one = add(marks, order, count, entry_named(first));
-    let two = add(marks, order, one, entry_named(second));
-    add(marks, order, two, entry_named(third))
+    let one = add(marks, order, count, entry_named(parts.first));
+    let two = add(marks, order, one, entry_named(parts.second));
+    add(marks, order, two, entry_named(parts.third))
 }
 
 // "every update of that variable": those that the links lead through.
@@ -76,6 +68,7 @@ fn add_updates(
 {
     let mut total = count;
     let mut link = from;
+    // Along links, not over an index: a range or slice has no such order.
     while 0 < link {
         let j = (link - 1) as usize;
         total = add(marks, order, total, j);
@@ -90,21 +83,18 @@ pub(crate) fn reached(t: Table, u: Updates, k: usize) -> [bool; Table::ENTRIES]
     requires { Sound t × (k < t.n) × Links t u }
     ensures { Reached t k result }
 {
-    let before = u.before;
     let mut last = u.last;
     let mut marks = [false; Table::ENTRIES];
-    let mut order: [u16; Table::ENTRIES] = [0; Table::ENTRIES];
+    let mut order = [0u16; Table::ENTRIES];
     let mut count = add(&mut marks, &mut order, 0, k);
-    let mut head: usize = 0;
+    let mut head = 0;
+    // The queue grows while it is gone through: no range or slice holds what is still to come.
     while head < count {
         let j = order[head] as usize;
-        let slot = t.entries[j];
-        let e = slot.entry;
-        let parts = apart_of(e);
-        let first = parts.first;
+        let parts = apart_of(t.entries[j].entry);
         count = add_operands(parts, &mut marks, &mut order, count);
-        let link = cut(&mut last, variable_named(first));
-        count = add_updates(&before, link, &mut marks, &mut order, count);
+        let link = cut(&mut last, variable_named(parts.first));
+        count = add_updates(&u.before, link, &mut marks, &mut order, count);
         head += 1;
     }
     marks

@@ -9,7 +9,7 @@ ghost use Rattle.std.specs.Prelude.{◌≡◌};
 ghost use Rattle.reach.specs.Reaching.{no_marks, reach_fault, ReachReply};
 
 use crate::following::reached;
-use crate::touched::touched_by;
+use crate::touched::{Touched, touched_by};
 use crate::updates::linked;
 use reach::Reach;
 use refusals::Refusal;
@@ -39,12 +39,11 @@ pub fn of_entry(t: Table, entry: usize) -> Reach
         return no_marks(Refusal::NoEntry);
     }
     let marks = reached(t, linked(t), entry);
-    let touched = touched_by(t, &marks);
-    let imports = touched.imports;
+    let Touched { imports, clock } = touched_by(t, &marks);
     Reach {
         answer: Ok(()),
         entries: marks,
-        imports: imports,
-        clock: touched.clock,
+        imports,
+        clock,
     }
 }

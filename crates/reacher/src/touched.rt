@@ -20,11 +20,8 @@ fn import_named(o: Operand) -> usize
     ensures { result ≡ import_named o }
 {
     match o {
-        Operand::Nothing => Table::IMPORTS,
-        Operand::Entry(_, _) => Table::IMPORTS,
         Operand::Imported(_, i) => i as usize,
-        Operand::Variable(_) => Table::IMPORTS,
-        Operand::Constant(_) => Table::IMPORTS,
+        _ => Table::IMPORTS,
     }
 }
 
@@ -52,20 +49,12 @@ pub(crate) fn touched_by(t: Table, marks: &[bool; Table::ENTRIES]) -> Touched
 {
     let mut imports = [false; Table::IMPORTS];
     let mut clock = false;
-    let mut k: usize = 0;
-    while k < t.n {
+    for k in 0..t.n {
         if marks[k] {
-            let slot = t.entries[k];
-            let e = slot.entry;
-            let parts = apart_of(e);
-            let first = parts.first;
-            mark(&mut imports, import_named(first));
-            clock = clock | is_clock(parts.kind);
+            let parts = apart_of(t.entries[k].entry);
+            mark(&mut imports, import_named(parts.first));
+            clock |= is_clock(parts.kind);
         }
-        k += 1;
     }
-    Touched {
-        imports: imports,
-        clock: clock,
-    }
+    Touched { imports, clock }
 }

@@ -21,11 +21,8 @@ pub(crate) fn variable_named(o: Operand) -> usize
     ensures { result ≡ variable_named o }
 {
     match o {
-        Operand::Nothing => Table::VARIABLES,
-        Operand::Entry(_, _) => Table::VARIABLES,
-        Operand::Imported(_, _) => Table::VARIABLES,
         Operand::Variable(x) => x as usize,
-        Operand::Constant(_) => Table::VARIABLES,
+        _ => Table::VARIABLES,
     }
 }
 
@@ -55,20 +52,11 @@ pub(crate) fn linked(t: Table) -> Updates
     requires { Sound t }
     ensures { Links t result }
 {
-    let mut last: [u16; Table::VARIABLES] = [0; Table::VARIABLES];
-    let mut before: [u16; Table::ENTRIES] = [0; Table::ENTRIES];
-    let mut k: usize = 0;
-    while k < t.n {
-        let slot = t.entries[k];
-        let e = slot.entry;
-        let parts = apart_of(e);
-        let second = parts.second;
-        let link = replace(&mut last, variable_named(second), (k + 1) as u16);
-        before[k] = link;
-        k += 1;
+    let mut last = [0u16; Table::VARIABLES];
+    let mut before = [0u16; Table::ENTRIES];
+    for k in 0..t.n {
+        let parts = apart_of(t.entries[k].entry);
+        before[k] = replace(&mut last, variable_named(parts.second), (k + 1) as u16);
     }
-    Updates {
-        last: last,
-        before: before,
-    }
+    Updates { last, before }
 }

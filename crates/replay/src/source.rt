@@ -72,14 +72,8 @@ fn keep(input: &mut [u8], taken: usize, have: usize) -> usize
     ensures value { result ≡ have - taken }
     ensures input_after { input.new ≡ paste input.old 0 (drop taken input.old) (have - taken) }
 {
-    let mut i: usize = 0;
-    let mut from = taken;
-    while from < have {
-        input[i] = input[from];
-        i += 1;
-        from += 1;
-    }
-    i
+    input.copy_within(taken..have, 0);
+    have - taken
 }
 
 // Nothing is read.
@@ -87,8 +81,8 @@ fn unread(have: usize, ended: bool) -> Held
     ensures { result ≡ record { have = have; ended = ended; failed = None } }
 {
     Held {
-        have: have,
-        ended: ended,
+        have,
+        ended,
         failed: None,
     }
 }
@@ -113,7 +107,7 @@ fn more<R: Read>(source: &mut R, ended: bool, input: &mut [u8], have: usize) -> 
             failed: None,
         },
         Err(e) => Held {
-            have: have,
+            have,
             ended: false,
             failed: Some(e),
         },

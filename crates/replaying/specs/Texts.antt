@@ -1,8 +1,10 @@
 -- The texts of labels, kept 32 bytes to an entry.
-use Rattle.std.specs.Prelude.{List, [], ◌≡◌, ℕ, ◌+◌, ◌-◌, ◌/◌, ◌%◌, ◌<◌, ◌≤◌, min, length, get_or, set, take, drop, replicate}
-use Rattle.std.proofs.Common.{sym, ◌∙◌, ap, arith, length-set, length-take, length-drop, ext_get_or, get_or-set_same, get_or-set_other, get_or-take, get_or-drop}
+use Rattle.std.specs.Prelude.{List, [], ◌≡◌, ℕ, zero, suc, ◌+◌, ◌-◌, ◌/◌, ◌%◌, ◌<◌, ◌≤◌, min, length, get_or, set, take, drop, replicate}
+use Rattle.std.proofs.Common.{sym, ◌∙◌, ap, subst, add-one, arith, length-set, length-take, length-drop, ext_get_or, get_or-set_same, get_or-set_other, get_or-take, get_or-drop}
 use Rattle.std.proofs.Math.Decide.{ℕ_discrete, dec_lt}
+use Rattle.std.proofs.Math.Seq.{paste}
 use Rattle.std.proofs.lemmas.List.{length-replicate}
+use Rattle.std.proofs.lemmas.List.Edits.{paste_none, paste_more}
 use Rattle.std.proofs.Math.ListN.{get_or-eq_default}
 use Rattle.bits.specs.Bits.{list_to}
 use Rattle.bits.specs.Lists.{length_list, get_d_list}
@@ -75,12 +77,12 @@ pub record Putting (script : List ℕ) (k : ℕ) (text texts : List ℕ) (i : �
   pub put : TextsTo script (text_at k + i) texts
 
 -- none yet
-pub putting_none : {script text texts : List ℕ} {k : ℕ} → k < limits.slots → TextsTo script (text_at k) texts → text ≡ label_text script k → Putting script k text texts 0
+putting_none : {script text texts : List ℕ} {k : ℕ} → k < limits.slots → TextsTo script (text_at k) texts → text ≡ label_text script k → Putting script k text texts 0
 putting_none {script} {text} {texts} {k} slot so is =
     record { slot = slot; is = is; short = omega (arith, ap length is, label_text_short script k); within = omega arith; put = filled_at (text_at k + 0) so (omega arith) }
 
 -- one more
-pub putting_next : {script text texts : List ℕ} {k i : ℕ} → Putting script k text texts i → i < length text
+putting_next : {script text texts : List ℕ} {k i : ℕ} → Putting script k text texts i → i < length text
     → Putting script k text (set texts (text_at k + i) (get_or text i 0)) (i + 1)
 putting_next {script} {text} {texts} {k} {i} so there =
     record {
@@ -94,12 +96,25 @@ putting_next {script} {text} {texts} {k} {i} so there =
           (omega arith);
     }
 
+-- as many as are copied at once
+putting_to : {script text texts : List ℕ} {k : ℕ} (i : ℕ) → Putting script k text texts 0 → i ≤ length text → Putting script k text (paste texts (text_at k) text i) i
+putting_to {script} {text} {texts} {k} zero none within = subst (λ (l : List ℕ). Putting script k text l 0) (paste_none texts (text_at k) text) none
+putting_to {script} {text} {texts} {k} (suc i) none within =
+    let more = paste_more texts (text_at k) text i 0 (omega (arith, none.slot, none.short, none.put.long)) (omega arith) in
+    rw (sym (add-one i)) (subst (λ (l : List ℕ). Putting script k text l (i + 1)) more (putting_next (putting_to i none (omega arith)) (omega arith)))
+
 -- all of them: what is behind them is zeros
-pub putting_all : {script text texts : List ℕ} {k i : ℕ} → Putting script k text texts i → length text ≤ i → TextsTo script (text_at (k + 1)) texts
+putting_all : {script text texts : List ℕ} {k i : ℕ} → Putting script k text texts i → length text ≤ i → TextsTo script (text_at (k + 1)) texts
 putting_all {script} {text} {texts} {k} {i} so all =
     filled_zeros (text_at (k + 1)) so.put (omega arith) (λ j h₁ h₂.
     ap (λ (entry : ℕ). get_or (label_text script entry) (j % limits.label) 0) {x = j / limits.label} {y = k} (omega arith)
     ∙ get_or-eq_default (label_text script k) 0 {n = j % limits.label} (omega (arith, ap length so.is)))
+
+-- a text copied to where it is kept
+pub text_put : {text texts after : List ℕ} {k : ℕ} (script : List ℕ) → k < limits.slots → TextsTo script (text_at k) texts → text ≡ label_text script k
+    → after ≡ paste texts (text_at k) text (length text) → TextsTo script (text_at (k + 1)) after
+text_put {text} {texts} {after} {k} script slot so is put =
+    subst (TextsTo script (text_at (k + 1))) (sym put) (putting_all (putting_to (length text) (putting_none slot so is) (omega arith)) (omega arith))
 
 -- the texts and sizes of the first k entries are there
 pub record KeptTo (script texts sizes : List ℕ) (k : ℕ) : Type 0 where

@@ -1,5 +1,5 @@
 // The texts of a script's labels, kept so that a line finds its label at once.
-ghost use Rattle.std.specs.Prelude.{◌≡◌, ◌+◌, ◌<◌, length, take, drop};
+ghost use Rattle.std.specs.Prelude.{◌≡◌, ◌+◌, ◌<◌, length};
 ghost use Rattle.stream.specs.Replay.{label_text};
 ghost use Rattle.replaying.specs.Moving.{text_at, texts_of, sizes_of};
 ghost use Rattle.replaying.specs.Texts.{TextsTo};
@@ -21,11 +21,7 @@ fn put_text(script: &[u8], k: usize, texts: &mut [u8; 4096]) -> u8
     let mut number: u8 = 0;
     let text = parts::label(script, k, &mut number);
     let from = 32 * k;
-    let mut i: usize = 0;
-    while i < text.len() {
-        texts[from + i] = text[i];
-        i += 1;
-    }
+    texts[from..from + text.len()].copy_from_slice(text);
     text.len() as u8
 }
 
@@ -35,29 +31,8 @@ pub(crate) fn texts_of(script: &[u8]) -> Texts
 {
     let mut texts = [0; 4096];
     let mut sizes = [0; Table::ENTRIES];
-    let mut k: usize = 0;
-    while k < Table::ENTRIES {
-        sizes[k] = put_text(script, k, &mut texts);
-        k += 1;
+    for (k, size) in sizes.iter_mut().enumerate() {
+        *size = put_text(script, k, &mut texts);
     }
-    Texts {
-        texts: texts,
-        sizes: sizes,
-    }
-}
-
-// The text of entry k's label, of so many bytes.
-pub(crate) fn text_of(texts: &[u8], k: usize, size: u8) -> &[u8]
-    ensures { result.now ≡ take size (drop (text_at k) texts.now) }
-{
-    let wanted = size as usize;
-    if texts.len() / 32 < k {
-        return &texts[0..0];
-    }
-    let from = 32 * k;
-    if texts.len() - from < wanted {
-        return &texts[from..];
-    }
-    let end = from + wanted;
-    &texts[from..end]
+    Texts { texts, sizes }
 }

@@ -6,9 +6,7 @@ ghost use Rattle.replaying.specs.Moving.{once_more, accepted_after, refused_afte
 ghost use Rattle.replaying.specs.Turning.{NoWhole, Idle};
 
 use crate::framing::{Record, record_at};
-use crate::opening::{finished, opened};
 use crate::printing::{closing_lines, cut_line, refused_line};
-use crate::running::run_steps;
 use crate::{Player, Stage, Turn};
 use refusals::Refusal;
 use table::Table;
@@ -21,12 +19,11 @@ pub fn new_player() -> Player
     ensures { result ≡ new_player }
 {
     let started = monitor::start(Table::empty());
-    let monitor = started.monitor;
     Player {
         stage: Stage::Script,
         texts: [0; 4096],
         sizes: [0; Table::ENTRIES],
-        monitor: monitor,
+        monitor: started.monitor,
         accepted: 0,
         refused: 0,
     }
@@ -62,139 +59,127 @@ fn once_more(count: u64) -> u64
     count
 }
 
-// No move: the player as it is.
-fn stays(p: Player, over: bool, at: usize, filled: usize) -> Turn
-    ensures { result ≡ record { player = p; over = over; taken = at; filled = filled } }
-{
-    Turn {
-        player: p,
-        over: over,
-        taken: at,
-        filled: filled,
+impl Player {
+    // No move: the player as it is.
+    fn stays(self, over: bool, taken: usize, filled: usize) -> Turn
+        ensures { result ≡ record { player = self; over = over; taken = taken; filled = filled } }
+    {
+        Turn {
+            player: self,
+            over,
+            taken,
+            filled,
+        }
     }
-}
 
-// The last lines, where the input has ended and there is room for them.
-pub(crate) fn close(
-    p: Player,
-    input: &[u8],
-    at: usize,
-    ended: bool,
-    out: &mut [u8],
-    filled: usize,
-) -> Turn
-    requires { (at ≤ length input.now) × (filled ≤ length out.old) × Idle p input.now at (length out.old - filled) }
-    ensures { Turned p ended input.now at out.old filled out.new result }
-{
-    if !ended {
-        return stays(p, false, at, filled);
+    // The last lines, where the input has ended and there is room for them.
+    pub(crate) fn close(
+        self,
+        input: &[u8],
+        at: usize,
+        ended: bool,
+        out: &mut [u8],
+        filled: usize,
+    ) -> Turn
+        requires { (at ≤ length input.now) × (filled ≤ length out.old) × Idle self input.now at (length out.old - filled) }
+        ensures { Turned self ended input.now at out.old filled out.new result }
+    {
+        if !ended {
+            return self.stays(false, at, filled);
+        }
+        if out.len() - filled < MOVE_ROOM {
+            return self.stays(false, at, filled);
+        }
+        let next = closing_lines(out, filled, at < input.len(), self.accepted, self.refused);
+        self.finished().stays(true, input.len(), next)
     }
-    if out.len() - filled < MOVE_ROOM {
-        return stays(p, false, at, filled);
-    }
-    let next = closing_lines(out, filled, at < input.len(), p.accepted, p.refused);
-    stays(finished(p), true, input.len(), next)
-}
 
-// Records from byte `from` on, as long as a whole one is there and room for its line, by a monitor that 29 stops: each is refused.
-fn refused_steps(
-    p: Player,
-    input: &[u8],
-    from: usize,
-    ended: bool,
-    out: &mut [u8],
-    start: usize,
-) -> Turn
-    requires { (p.stage ≡ Stage.Steps) × (unsound p.monitor ≡ Err Refusal.Unsound) × (from ≤ length input.now) × (start ≤ length out.old) }
-    ensures { Turned p ended input.now from out.old start out.new result }
-{
-    let mut refused = p.refused;
-    let mut at = from;
-    let mut filled = start;
-    while out.len() - filled >= MOVE_ROOM {
-        let Record::Whole(size) = record_at(input, at) else {
-            break;
+    // Records from byte `from` on, as long as a whole one is there and room for its line, by a monitor that 29 stops: each is refused.
+    fn refused_steps(
+        self,
+        input: &[u8],
+        from: usize,
+        ended: bool,
+        out: &mut [u8],
+        start: usize,
+    ) -> Turn
+        requires { (self.stage ≡ Stage.Steps) × (unsound self.monitor ≡ Err Refusal.Unsound) × (from ≤ length input.now) × (start ≤ length out.old) }
+        ensures { Turned self ended input.now from out.old start out.new result }
+    {
+        let mut refused = self.refused;
+        let mut at = from;
+        let mut filled = start;
+        while out.len() - filled >= MOVE_ROOM {
+            let Record::Whole(size) = record_at(input, at) else {
+                break;
+            };
+            filled = refused_line(out, filled, Refusal::Unsound);
+            refused = once_more(refused);
+            at = at + 2 + size;
+        }
+        let player = Player { refused, ..self };
+        player.close(input, at, ended, out, filled)
+    }
+
+    // Records from byte `from` on: 29 is tested once, and where it does not stop the monitor, the steps are taken in place.
+    fn steps(self, input: &[u8], from: usize, ended: bool, out: &mut [u8], start: usize) -> Turn
+        requires { (self.stage ≡ Stage.Steps) × (from ≤ length input.now) × (start ≤ length out.old) }
+        ensures { Turned self ended input.now from out.old start out.new result }
+    {
+        match monitor::unsound(self.monitor) {
+            Ok(()) => self.run_steps(input, from, ended, out, start),
+            Err(_) => self.refused_steps(input, from, ended, out, start),
+        }
+    }
+
+    // What follows a script: records, or nothing, where it was refused.
+    fn follow(self, input: &[u8], at: usize, ended: bool, out: &mut [u8], filled: usize) -> Turn
+        requires { (self.stage ≡ Stage.Script → ⊥) × (at ≤ length input.now) × (filled ≤ length out.old) }
+        ensures { Turned self ended input.now at out.old filled out.new result }
+    {
+        match self.stage {
+            Stage::Script => self.stays(false, at, filled),
+            Stage::Steps => self.steps(input, at, ended, out, filled),
+            Stage::Over => self.stays(true, at, filled),
+        }
+    }
+
+    // The script, once it is wholly there, and then the records after it.
+    fn begin(self, input: &[u8], ended: bool, out: &mut [u8]) -> Turn
+        requires { self.stage ≡ Stage.Script }
+        ensures { Turned self ended input.now 0 out.old 0 out.new result }
+    {
+        if out.len() < MOVE_ROOM {
+            return self.stays(false, 0, 0);
+        }
+        let Record::Whole(size) = record_at(input, 0) else {
+            return self.unopened(input, ended, out);
         };
-        filled = refused_line(out, filled, Refusal::Unsound);
-        refused = once_more(refused);
-        at = at + 2 + size;
+        let end = 2 + size;
+        let o = self.opened(&input[2..end], out);
+        o.player.follow(input, end, ended, out, o.filled)
     }
-    let texts = p.texts;
-    let sizes = p.sizes;
-    let monitor = p.monitor;
-    let player = Player {
-        stage: Stage::Steps,
-        texts: texts,
-        sizes: sizes,
-        monitor: monitor,
-        accepted: p.accepted,
-        refused: refused,
-    };
-    close(player, input, at, ended, out, filled)
-}
 
-// Records from byte `from` on: 29 is tested once, and where it does not stop the monitor, the steps are taken in place.
-fn steps(p: Player, input: &[u8], from: usize, ended: bool, out: &mut [u8], start: usize) -> Turn
-    requires { (p.stage ≡ Stage.Steps) × (from ≤ length input.now) × (start ≤ length out.old) }
-    ensures { Turned p ended input.now from out.old start out.new result }
-{
-    let monitor = p.monitor;
-    match monitor::unsound(monitor) {
-        Ok(()) => run_steps(p, input, from, ended, out, start),
-        Err(_) => refused_steps(p, input, from, ended, out, start),
+    // "input that stops before the whole script is there prints `cut` and nothing else"
+    fn unopened(self, input: &[u8], ended: bool, out: &mut [u8]) -> Turn
+        requires { (self.stage ≡ Stage.Script) × NoWhole (next_record input.now) × (move_room ≤ length out.old) }
+        ensures { Turned self ended input.now 0 out.old 0 out.new result }
+    {
+        if !ended {
+            return self.stays(false, 0, 0);
+        }
+        let filled = cut_line(out, 0);
+        self.finished().stays(true, input.len(), filled)
     }
-}
-
-// What follows a script: records, or nothing, where it was refused.
-fn follow(p: Player, input: &[u8], at: usize, ended: bool, out: &mut [u8], filled: usize) -> Turn
-    requires { (p.stage ≡ Stage.Script → ⊥) × (at ≤ length input.now) × (filled ≤ length out.old) }
-    ensures { Turned p ended input.now at out.old filled out.new result }
-{
-    let stage = p.stage;
-    match stage {
-        Stage::Script => stays(p, false, at, filled),
-        Stage::Steps => steps(p, input, at, ended, out, filled),
-        Stage::Over => stays(p, true, at, filled),
-    }
-}
-
-// The script, once it is wholly there, and then the records after it.
-fn begin(p: Player, input: &[u8], ended: bool, out: &mut [u8]) -> Turn
-    requires { p.stage ≡ Stage.Script }
-    ensures { Turned p ended input.now 0 out.old 0 out.new result }
-{
-    if out.len() < MOVE_ROOM {
-        return stays(p, false, 0, 0);
-    }
-    let Record::Whole(size) = record_at(input, 0) else {
-        return unopened(p, input, ended, out);
-    };
-    let end = 2 + size;
-    let o = opened(p, &input[2..end], out);
-    let player = o.player;
-    follow(player, input, end, ended, out, o.filled)
-}
-
-// "input that stops before the whole script is there prints `cut` and nothing else"
-fn unopened(p: Player, input: &[u8], ended: bool, out: &mut [u8]) -> Turn
-    requires { (p.stage ≡ Stage.Script) × NoWhole (next_record input.now) × (move_room ≤ length out.old) }
-    ensures { Turned p ended input.now 0 out.old 0 out.new result }
-{
-    if !ended {
-        return stays(p, false, 0, 0);
-    }
-    let filled = cut_line(out, 0);
-    stays(finished(p), true, input.len(), filled)
 }
 
 // The lines of the bytes that are there, laid into `out`; `ended` says that no more will come.
 pub fn play(p: Player, input: &[u8], ended: bool, out: &mut [u8]) -> Turn
     ensures { Turned p ended input.now 0 out.old 0 out.new result }
 {
-    let stage = p.stage;
-    match stage {
-        Stage::Script => begin(p, input, ended, out),
-        Stage::Steps => steps(p, input, 0, ended, out, 0),
-        Stage::Over => stays(p, true, 0, 0),
+    match p.stage {
+        Stage::Script => p.begin(input, ended, out),
+        Stage::Steps => p.steps(input, 0, ended, out, 0),
+        Stage::Over => p.stays(true, 0, 0),
     }
 }

@@ -1,12 +1,9 @@
--- `lines::put` meets its contract. The loop's invariant: the first i bytes of the text are laid.
-use Prim.Native.Nat.{◌-◌, ◌≤◌}
-use native.Mathlib.Omega.{arith}
-use lib.ListN.{length, take}
-use Rattle.lines.specs.Laying.{Lays, lays_none, lays_next, lays_all, lays_length}
+-- `lines::put` meets its contract. The loop's invariant: the bytes of the text so far are laid.
+use Rattle.lines.specs.Laying.{lays_none, lays_next}
 use Rattle.lines.proofs.put.Goals as goal
 
-pub loop-i-init : goal.loop-i-init
-loop-i-init c = (omega arith, lays_none _ _)
+pub loop-b-init : goal.loop-b-init
+loop-b-init c = lays_none _ _
 
-pub loop-i-preserved : goal.loop-i-preserved
-loop-i-preserved c = (omega arith, search lays_next)
+pub loop-b-preserved : goal.loop-b-preserved
+loop-b-preserved c = search lays_next

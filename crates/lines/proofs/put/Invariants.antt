@@ -1,13 +1,7 @@
--- `lines::put` meets its contract. The loop's invariant: the first i bytes of the text are laid.
-use Prim.Native.Nat.{◌-◌, ◌≤◌}
-use native.Mathlib.Omega.{arith}
-use borrow.Author.Rules.{rules}
-use lib.ListN.{length, take}
-use Rattle.lines.specs.Laying.{Lays, lays_none, lays_next, lays_all, lays_length}
+-- `lines::put` meets its contract. The loop's invariant: the bytes of the text so far are laid.
+use Rattle.std.specs.Prelude.{take}
+use Rattle.lines.specs.Laying.{Lays}
 use Rattle.lines.proofs.put.Given as goal
 
-abbrev pub invariant-loop-i : goal.invariant-loop-i
-invariant-loop-i l = (l.i ≤ length l.text) × Lays l.initial.out l.at (take l.i l.text) l.out l.next
-
-abbrev pub decreases-loop-i : goal.decreases-loop-i
-decreases-loop-i l = length l.text - l.i
+abbrev pub invariant-loop-b : goal.invariant-loop-b
+invariant-loop-b l = Lays l.initial.out l.at (take l.b-index l.text) l.out l.next

@@ -18,8 +18,8 @@ linked-requires c = search found_sound
 pub reached-marks-requires : goal.reached-marks-requires
 reached-marks-requires c = (search found_sound, search rules, search rules)
 
-pub touched_by-touched-requires : goal.touched_by-touched-requires
-touched_by-touched-requires c = search found_sound
+pub touched_by-clock-requires : goal.touched_by-clock-requires
+touched_by-clock-requires c = search found_sound
 
 pub returns : goal.returns
 returns c = search reply_shown

@@ -7,6 +7,3 @@ use Rattle.door.proofs.alarms.nimbra_next_alarm.Given as goal
 
 abbrev pub invariant-loop-k : goal.invariant-loop-k
 invariant-loop-k l = next_alarm l.results l.k ≡ next_alarm l.results l.from
-
-abbrev pub decreases-loop-k : goal.decreases-loop-k
-decreases-loop-k l = length l.results - l.k

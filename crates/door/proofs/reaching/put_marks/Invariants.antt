@@ -7,6 +7,3 @@ use Rattle.door.proofs.reaching.put_marks.Given as goal
 
 abbrev pub invariant-loop-k : goal.invariant-loop-k
 invariant-loop-k l = Marking l.marks l.at l.initial.out l.out l.k
-
-abbrev pub decreases-loop-k : goal.decreases-loop-k
-decreases-loop-k l = length l.marks - l.k

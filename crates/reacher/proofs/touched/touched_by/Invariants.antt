@@ -5,6 +5,3 @@ use Rattle.reacher.proofs.touched.touched_by.Given as goal
 
 abbrev pub invariant-loop-k : goal.invariant-loop-k
 invariant-loop-k l = Touching l.t l.marks l.imports l.clock l.k
-
-abbrev pub decreases-loop-k : goal.decreases-loop-k
-decreases-loop-k l = l.t.n - l.k

@@ -5,6 +5,3 @@ use Rattle.reacher.proofs.updates.linked.Given as goal
 
 abbrev pub invariant-loop-k : goal.invariant-loop-k
 invariant-loop-k l = Linking l.t l.last l.before l.k
-
-abbrev pub decreases-loop-k : goal.decreases-loop-k
-decreases-loop-k l = l.t.n - l.k

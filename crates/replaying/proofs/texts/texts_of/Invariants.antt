@@ -1,10 +1,6 @@
 -- `replaying::texts::texts_of` meets its contract. The loop's invariant: the texts and sizes of the first k entries are there; the measure is how many are left.
-use Prim.Native.Nat.{◌-◌}
 use Rattle.replaying.specs.Texts.{KeptTo}
 use Rattle.replaying.proofs.texts.texts_of.Given as goal
 
 abbrev pub invariant-loop-k : goal.invariant-loop-k
-invariant-loop-k l = KeptTo l.script l.texts l.sizes l.k
-
-abbrev pub decreases-loop-k : goal.decreases-loop-k
-decreases-loop-k l = 128 - l.k
+invariant-loop-k l = KeptTo l.script l.texts l.size-items l.k

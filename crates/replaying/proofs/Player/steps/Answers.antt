@@ -1,6 +1,6 @@
--- `replaying::turning::steps` meets its contract: by whether 29 stops the monitor.
+-- `replaying::Player::steps` meets its contract: by whether 29 stops the monitor.
 use Rattle.replaying.specs.Refusing.{stopped_by_29}
-use Rattle.replaying.proofs.turning.steps.Goals as goal
+use Rattle.replaying.proofs.Player.steps.Goals as goal
 
 -- where it was not, the monitor is stopped by 29
 pub refused_steps-requires : goal.refused_steps-requires

@@ -1,6 +1,6 @@
--- `replaying::turning::close` meets its contract: by whether the input has ended, and whether there is room.
+-- `replaying::Player::close` meets its contract: by whether the input has ended, and whether there is room.
 use Rattle.replaying.specs.Turning.{close_full, close_waits, close_ends}
-use Rattle.replaying.proofs.turning.close.Goals as goal
+use Rattle.replaying.proofs.Player.close.Goals as goal
 
 pub returns-then-not-ended : goal.returns-then-not-ended
 returns-then-not-ended c = search close_waits

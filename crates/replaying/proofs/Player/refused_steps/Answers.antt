@@ -1,10 +1,10 @@
--- `replaying::turning::refused_steps` meets its contract. The loop's invariant: whatever turn follows from here is one from the start; the measure is how many bytes are left.
+-- `replaying::Player::refused_steps` meets its contract. The loop's invariant: whatever turn follows from here is one from the start; the measure is how many bytes are left.
 use mathlib.Core.Path.{subst}
 use native.Mathlib.Omega.{arith}
 use Rattle.replaying.specs.declared.framing.Record.{Record}
 use Rattle.replaying.specs.Framing.{Framed}
 use Rattle.replaying.specs.Refusing.{going_refused}
-use Rattle.replaying.proofs.turning.refused_steps.Goals as goal
+use Rattle.replaying.proofs.Player.refused_steps.Goals as goal
 
 pub loop-out-preserved : goal.loop-out-preserved
 loop-out-preserved c =

@@ -1,6 +1,6 @@
--- `replaying::rows::printed_line` meets its contract: by the word.
+-- `replaying::Player::printed_line` meets its contract: by the word.
 use Rattle.replaying.specs.Rows.{lays_alarm, lays_violated, lays_unprinted}
-use Rattle.replaying.proofs.rows.printed_line.Goals as goal
+use Rattle.replaying.proofs.Player.printed_line.Goals as goal
 
 pub returns-then-raised : goal.returns-then-raised
 returns-then-raised c = lays_alarm _ _ c.if-raised.true c.text_of.ensures c.word_line.ensures

@@ -1,4 +1,4 @@
--- `replaying::turning::begin` meets its contract: by the room, and by whether the script is wholly there.
+-- `replaying::Player::begin` meets its contract: by the room, and by whether the script is wholly there.
 use mathlib.Core.Path.{subst}
 use Prim.Native.Nat.{◌+◌, ◌-◌}
 use native.Mathlib.Omega.{arith}
@@ -8,7 +8,7 @@ use Rattle.lines.specs.Laying.{lays_length, lays_within}
 use Rattle.replaying.specs.declared.framing.Record.{Record}
 use Rattle.replaying.specs.Framing.{Framed}
 use Rattle.replaying.specs.Turning.{opening_full, opening_goes, opened_on}
-use Rattle.replaying.proofs.turning.begin.Goals as goal
+use Rattle.replaying.proofs.Player.begin.Goals as goal
 
 pub returns-then-out-lt-MOVE_ROOM : goal.returns-then-out-lt-MOVE_ROOM
 returns-then-out-lt-MOVE_ROOM c = search opening_full
@@ -18,7 +18,7 @@ follow-requires c =
     let framed : Framed c.args.input.now 0 (Record.Whole c.in-Whole.size) = subst (Framed c.args.input.now 0) c.in-Whole.is c.record_at.ensures in
     let o = c.opened-o in
     let script = take (2 + c.in-Whole.size - 2) (drop 2 c.args.input.now) in
-    (opened_on c.args.p script (script_of script) o.ensures.player, framed.ends, omega (arith, (lays_within o.ensures.line).1, lays_length o.ensures.line))
+    (opened_on c.args.self script (script_of script) o.ensures.player, framed.ends, omega (arith, (lays_within o.ensures.line).1, lays_length o.ensures.line))
 
 -- the script's line, and the turn that follows
 pub returns : goal.returns

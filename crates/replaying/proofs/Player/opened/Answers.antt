@@ -1,6 +1,6 @@
--- `replaying::opening::opened` meets its contract: by the reader's answer.
+-- `replaying::Player::opened` meets its contract: by the reader's answer.
 use Rattle.replaying.specs.Opening.{read_accepted, read_refused}
-use Rattle.replaying.proofs.opening.opened.Goals as goal
+use Rattle.replaying.proofs.Player.opened.Goals as goal
 
 pub returns-in-Ok-clause-player : goal.returns-in-Ok-clause-player
 returns-in-Ok-clause-player c = rw (read_accepted _ c.read-read.ensures c.in-Ok.is).is c.begun.ensures
