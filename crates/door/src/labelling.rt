@@ -13,7 +13,7 @@ fn show_place(answer: Result<(), Refusal>, span: Span, place: &mut [u64]) -> u8
     ensures { Leaves (place_left answer span place.old) result place.new }
 {
     match answer {
-        Err(r) => refusals::number(r),
+        Err(r) => u8::from(r),
         Ok(()) => {
             place[0] = span.from as u64;
             place[1] = span.size as u64;

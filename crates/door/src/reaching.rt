@@ -35,7 +35,7 @@ fn show_reach(found: Reach, marks: &mut [u8]) -> u8
 {
     let answer = found.answer;
     match answer {
-        Err(r) => refusals::number(r),
+        Err(r) => u8::from(r),
         Ok(()) => {
             put_reach(found, marks);
             0
@@ -55,7 +55,7 @@ pub fn nimbra_reach(state: &[u64], entry: u64, marks: &mut [u8]) -> u8
         return WRONG_SIZE;
     }
     match words::state_fault(state) {
-        Err(r) => refusals::number(r),
+        Err(r) => u8::from(r),
         Ok(()) => {
             let m = words::monitor_in(state);
             show_reach(reacher::of_entry(m.table, entry as usize), marks)

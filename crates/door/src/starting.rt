@@ -16,7 +16,7 @@ pub fn nimbra_start(script: &[u8], state: &mut [u64]) -> u8
     let read = reader::read(script);
     let answer = read.answer;
     match answer {
-        Err(r) => refusals::number(r),
+        Err(r) => u8::from(r),
         Ok(()) => {
             let started = monitor::start(read.table);
             words::pack(started.monitor, state);

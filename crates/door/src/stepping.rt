@@ -25,7 +25,7 @@ pub fn nimbra_step(state: &mut [u64], step: &[u8], results: &mut [u64]) -> u8
         return WRONG_SIZE;
     }
     match words::state_fault(state) {
-        Err(r) => refusals::number(r),
+        Err(r) => u8::from(r),
         Ok(()) => step_on(state, step, results),
     }
 }

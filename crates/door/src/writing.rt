@@ -14,7 +14,7 @@ fn show_size(written: Written, size: &mut [u64]) -> u8
 {
     let answer = written.answer;
     match answer {
-        Err(r) => refusals::number(r),
+        Err(r) => u8::from(r),
         Ok(()) => {
             size[0] = written.size as u64;
             0
@@ -34,7 +34,7 @@ pub fn nimbra_write(state: &[u64], labels: &[u8], out: &mut [u8], size: &mut [u6
         return WRONG_SIZE;
     }
     match words::state_fault(state) {
-        Err(r) => refusals::number(r),
+        Err(r) => u8::from(r),
         Ok(()) => {
             let m = words::monitor_in(state);
             show_size(writer::write(m.table, labels, out), size)

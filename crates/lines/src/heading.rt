@@ -29,5 +29,5 @@ fn refused_line(out: &mut [u8], at: usize, n: u8) -> usize
 pub fn put_script_refused(out: &mut [u8], at: usize, r: Refusal) -> usize
     ensures { Lays out.old at (script_refused_line r) out.new result }
 {
-    refused_line(out, at, refusals::number(r))
+    refused_line(out, at, u8::from(r))
 }

@@ -63,7 +63,7 @@ pub fn result(e: Entry, x: Outcome, y: Outcome, g: Givens) -> Outcome
             Outcome::Condition(reported)
         }
         Entry::Defined(_) => Outcome::Condition(x.condition().defined()),
-        Entry::Pair(_, _) => Outcome::Condition(Truth::of(g.paired)),
+        Entry::Pair(_, _) => Outcome::Condition(Truth::from(g.paired)),
         Entry::Not(_) => Outcome::Condition(x.condition().not()),
         Entry::Or(_, _) => Outcome::Condition(x.condition().or(y.condition())),
         Entry::And(_, _) => Outcome::Condition(x.condition().and(y.condition())),

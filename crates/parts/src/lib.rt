@@ -14,7 +14,7 @@ pub fn outcome(answer: Result<(), Refusal>) -> u8
 {
     match answer {
         Ok(()) => 0,
-        Err(r) => refusals::number(r),
+        Err(r) => u8::from(r),
     }
 }
 

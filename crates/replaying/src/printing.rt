@@ -29,7 +29,7 @@ pub(crate) fn word_line(
 pub(crate) fn refused_line(out: &mut [u8], at: usize, r: Refusal) -> usize
     ensures { Lays out.old at (refused_line r) out.new result }
 {
-    let number = refusals::number(r);
+    let number = u8::from(r);
     let at = lines::put(out, at, b"refused");
     let at = lines::put_number(out, at, number as u64);
     lines::put_byte(out, at, b'\n')

@@ -4,7 +4,7 @@ use std::io;
 
 fn one(rt: &impl Print, r: Refusal) -> io::Result<()> {
     rt.print(" ")?;
-    rt.print(refusals::number(r))
+    rt.print(u8::from(r))
 }
 
 fn of_a_script(rt: &impl Print) -> io::Result<()> {

@@ -52,7 +52,7 @@ fn compared(rt: &impl Print, a: Number, b: Number) -> io::Result<()> {
 }
 
 fn in_range(rt: &impl Print, n: Number) -> io::Result<()> {
-    println!(rt; "{} in range: {}", Named(n), Truth::of(n.in_range()))
+    println!(rt; "{} in range: {}", Named(n), Truth::from(n.in_range()))
 }
 
 fn sums(rt: &impl Print) -> io::Result<()> {
