@@ -1,7 +1,7 @@
 // Results as text.
 use monitor::Stepped;
 use std::{fmt, io};
-use values::{Number, Outcome, Slot, Truth};
+use values::{Number, Outcome, Truth};
 
 // A result in one word: document 01's, but "-" for an event that does not occur.
 #[derive(Clone, Copy)]
@@ -46,14 +46,11 @@ pub(crate) fn say_results(rt: &impl Print, r: Stepped, n: usize) -> io::Result<(
 
 // How many of the slots from n on hold "no result".
 pub(crate) fn say_nothings(rt: &impl Print, r: Stepped, n: usize) -> io::Result<()> {
-    let nothing = Slot {
-        outcome: Outcome::Nothing,
-    };
     let count = r
         .results
         .iter()
         .skip(n)
-        .filter(|slot| **slot == nothing)
+        .filter(|slot| slot.outcome == Outcome::Nothing)
         .count();
     print!(rt; " | {count} no result")
 }
