@@ -1,5 +1,7 @@
 -- A field put by its window: the bytes that it touches are taken as one number, the field is replaced in it, and its bytes are stored again.
-use Rattle.std.specs.Prelude.{false, ◌&&◌, List, ◌≢◌, ◌≡◌, leb, length, get_or, set}
+use Rattle.std.specs.Prelude.{false, ◌&&◌, List, ◌++◌, ◌≢◌, ◌≡◌, leb, length, get_or, set, take, drop}
+use Rattle.std.specs.Int.{w64, to_be_bytes}
+use Rattle.std.proofs.lemmas.List.{length-append, length-drop, length-take-le, get_or-take, get_or-drop, get_or_append_left, get_or-append_right}
 use Rattle.std.proofs.Math.Logic.{⊎_elim}
 use Rattle.std.proofs.Math.Path.{refl}
 use Rattle.std.proofs.Common.{sym, ap, ◌∙◌, add_assoc, eq-or-lt_of_le, mod-eq_of_lt, arith, get_or-set_same, ext_get_or}
@@ -113,6 +115,46 @@ module _ (s : List ℕ) (first : ℕ) (byte : ℕ → ℕ) where
   stored_other zero j out = refl
   stored_other (suc n) j out =
       get_or-set_other (stored s first byte n) (first + n) j (byte n) 0 (out n (omega arith)) ∙ stored_other n j (λ i h. out i (omega arith))
+
+  -- the bytes before, as many others, and the bytes after
+  pub stored_between : (n : ℕ) (l : List ℕ) → first + n ≤ length s → length l ≡ n → ((i : ℕ) → i < n → get_or l i 0 ≡ byte i)
+      → take first s ++ (l ++ drop n (drop first s)) ≡ stored s first byte n
+  stored_between n l fits long each =
+      ext_get_or 0 _ _
+      (simp (length-append, length-drop, length_stored n) (omega (arith, length-take-le first s (omega arith))))
+      (λ j h. by j (dec_lt j first) (dec_lt j (first + n)))
+    where
+      front : length (take first s) ≡ first
+      front = length-take-le first s (omega arith)
+
+      by : (j : ℕ) → Dec (j < first) → Dec (j < first + n) → get_or (take first s ++ (l ++ drop n (drop first s))) j 0 ≡ get_or (stored s first byte n) j 0
+      by j (yes b) d =
+          get_or_append_left (take first s) _ 0 j (omega (arith, front)) ∙ get_or-take first s j 0 b ∙ sym (stored_other n j (λ i h e. omega arith))
+      by j (no b) (yes d) =
+          get_or-append_right (take first s) _ first j 0 front (omega arith)
+          ∙ get_or_append_left l _ 0 (j - first) (omega arith)
+          ∙ each (j - first) (omega arith)
+          ∙ sym (stored_there n (j - first) fits (omega arith))
+          ∙ ap (λ (k : ℕ). get_or (stored s first byte n) k 0) {x = first + (j - first)} {y = j} (omega arith)
+      by j (no b) (no d) =
+          get_or-append_right (take first s) _ first j 0 front (omega arith)
+          ∙ get_or-append_right l _ n (j - first) 0 long (omega arith)
+          ∙ get_or-drop n (drop first s) (j - first - n) 0
+          ∙ get_or-drop first s (n + (j - first - n)) 0
+          ∙ ap (λ (k : ℕ). get_or s k 0) {x = first + (n + (j - first - n))} {y = j} (omega arith)
+          ∙ sym (stored_other n j (λ i h e. omega arith))
+
+-- the bytes of a number of 64 bits
+pub eight_of : (x i : ℕ) → i < 8 → get_or (to_be_bytes w64 x) i 0 ≡ byte_of x 8 i
+eight_of x zero h = refl
+eight_of x (suc zero) h = refl
+eight_of x (suc (suc zero)) h = refl
+eight_of x (suc (suc (suc zero))) h = refl
+eight_of x (suc (suc (suc (suc zero)))) h = refl
+eight_of x (suc (suc (suc (suc (suc zero))))) h = refl
+eight_of x (suc (suc (suc (suc (suc (suc zero)))))) h = refl
+eight_of x (suc (suc (suc (suc (suc (suc (suc zero))))))) h = omega arith
+eight_of x (suc (suc (suc (suc (suc (suc (suc (suc i)))))))) h = absurd (omega arith)
 
 -- ---- the window's bytes stored again
 

@@ -15,11 +15,22 @@ fn replace(window: u64, w: usize, spare: usize, v: u64) -> u64
     (with << spare) + window % (1 << spare)
 }
 
-// The window's bytes, stored from byte `first` on.
+// The eight bytes of a window, stored from byte `first` on.
+fn store_eight(s: &mut [u8], first: usize, window: u64)
+    requires { first + 8 ≤ length s.old }
+    ensures { s.new ≡ stored s.old first (byte_of window 8) 8 }
+{
+    s[first..first + 8].copy_from_slice(&window.to_be_bytes());
+}
+
+// The window's bytes, at most eight of them, stored from byte `first` on.
 fn store(s: &mut [u8], first: usize, count: usize, window: u64)
     requires { (count ≤ 8) × (first + count ≤ length s.old) }
     ensures { s.new ≡ stored s.old first (byte_of window count) count }
 {
+    if count == 8 {
+        return store_eight(s, first, window);
+    }
     for i in 0..count {
         s[first + i] = ((window >> (8 * (count - 1 - i))) % 256) as u8;
     }
