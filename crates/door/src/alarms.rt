@@ -6,10 +6,7 @@ ghost use Rattle.door.specs.Alarms.{calls, next_alarm};
 fn calls(word: u64) -> bool
     ensures { result ≡ calls word }
 {
-    if word == 10 {
-        return true;
-    }
-    word == 12
+    word == 10 || word == 12
 }
 
 // The first place from `from` on with such a word, and the number of slots where there is none.

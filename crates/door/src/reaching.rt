@@ -57,8 +57,8 @@ pub fn nimbra_reach(state: &[u64], entry: u64, marks: &mut [u8]) -> u8
     match words::state_fault(state) {
         Err(r) => u8::from(r),
         Ok(()) => {
-            let m = words::monitor_in(state);
-            show_reach(reacher::of_entry(m.table, entry as usize), marks)
+            let table = words::monitor_in(state).table;
+            show_reach(reacher::of_entry(table, entry as usize), marks)
         }
     }
 }

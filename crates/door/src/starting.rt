@@ -18,8 +18,7 @@ pub fn nimbra_start(script: &[u8], state: &mut [u64]) -> u8
     match answer {
         Err(r) => u8::from(r),
         Ok(()) => {
-            let started = monitor::start(read.table);
-            words::pack(started.monitor, state);
+            words::pack(monitor::start(read.table).monitor, state);
             0
         }
     }

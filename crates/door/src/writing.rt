@@ -36,8 +36,8 @@ pub fn nimbra_write(state: &[u64], labels: &[u8], out: &mut [u8], size: &mut [u6
     match words::state_fault(state) {
         Err(r) => u8::from(r),
         Ok(()) => {
-            let m = words::monitor_in(state);
-            show_size(writer::write(m.table, labels, out), size)
+            let table = words::monitor_in(state).table;
+            show_size(writer::write(table, labels, out), size)
         }
     }
 }

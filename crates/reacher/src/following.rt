@@ -68,7 +68,7 @@ fn add_updates(
 {
     let mut total = count;
     let mut link = from;
-    // Along links, not over an index: a range or slice has no such order.
+    // A `while`: it goes along links, and counts no index.
     while 0 < link {
         let j = (link - 1) as usize;
         total = add(marks, order, total, j);
@@ -88,7 +88,7 @@ pub(crate) fn reached(t: Table, u: Updates, k: usize) -> [bool; Table::ENTRIES]
     let mut order = [0u16; Table::ENTRIES];
     let mut count = add(&mut marks, &mut order, 0, k);
     let mut head = 0;
-    // The queue grows while it is gone through: no range or slice holds what is still to come.
+    // A `while`: the queue grows as it is gone through, so that no range or slice holds what is still to come.
     while head < count {
         let j = order[head] as usize;
         let parts = apart_of(t.entries[j].entry);

@@ -6,6 +6,7 @@ ghost use Rattle.reacher.specs.Named.{variable_named};
 ghost use Rattle.reacher.specs.Linking.{Replaced, Links};
 
 use kinds::{Operand, apart_of};
+use std::mem;
 use table::Table;
 
 // Links to updates: of each variable to its last, and of each update to the one before it of the same variable.
@@ -32,9 +33,7 @@ fn replace(last: &mut [u16; Table::VARIABLES], x: usize, link: u16) -> u16
     ensures { Replaced last.old x link last.new result }
 {
     if x < Table::VARIABLES {
-        let was = last[x];
-        last[x] = link;
-        return was;
+        return mem::replace(&mut last[x], link);
     }
     0
 }

@@ -1,5 +1,5 @@
 // The lines of a step that was taken in place, by the words of its results.
-ghost use Rattle.std.specs.Prelude.{◌-◌, ◌≡◌, ◌<◌, ◌≤◌, get_or};
+ghost use Rattle.std.specs.Prelude.{◌≡◌, ◌-◌, ◌<◌, ◌≤◌, get_or};
 ghost use Rattle.lines.specs.Laying.{Lays};
 ghost use Rattle.stream.specs.Lines.{result_line};
 ghost use Rattle.stream.specs.Replay.{row_lines};
@@ -8,18 +8,17 @@ ghost use Rattle.replaying.specs.Rows.{printed, answer_lines};
 
 use crate::Player;
 use crate::printing::{refused_line, word_line};
+use crate::texts::text_of;
 use refusals::Refusal;
 use table::Table;
 
 impl Player {
     // The text of entry k's label.
-    fn text_of(&self, k: usize) -> &[u8]
+    fn label(&self, k: usize) -> &[u8]
         requires { k < 128 }
         ensures { result.now ≡ text_kept self.now.texts self.now.sizes k }
     {
-        let rest = &self.texts[32 * k..];
-        let size = self.sizes[k] as usize;
-        &rest[..size.min(rest.len())]
+        text_of(&self.texts, k, self.sizes[k])
     }
 
     // The line of a result by its word: 10 is an alarm that is raised, 12 a property that is violated; any other has no line.
@@ -29,11 +28,11 @@ impl Player {
     {
         let raised = w == 10;
         if raised {
-            return word_line(out, at, time, b"alarm", k, self.text_of(k));
+            return word_line(out, at, time, b"alarm", k, self.label(k));
         }
         let violated = w == 12;
         if violated {
-            return word_line(out, at, time, b"violated", k, self.text_of(k));
+            return word_line(out, at, time, b"violated", k, self.label(k));
         }
         at
     }

@@ -32,6 +32,7 @@ impl Player {
         let mut refused = self.refused;
         let mut at = from;
         let mut filled = start;
+        // No index is counted: each record says where the next one begins, and the room that is left says when to stop.
         while out.len() - filled >= MOVE_ROOM {
             let Record::Whole(size) = record_at(input, at) else {
                 break;

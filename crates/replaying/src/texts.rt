@@ -1,5 +1,5 @@
 // The texts of a script's labels, kept so that a line finds its label at once.
-ghost use Rattle.std.specs.Prelude.{◌≡◌, ◌+◌, ◌<◌, length};
+ghost use Rattle.std.specs.Prelude.{◌≡◌, ◌+◌, ◌<◌, length, take, drop};
 ghost use Rattle.stream.specs.Replay.{label_text};
 ghost use Rattle.replaying.specs.Moving.{text_at, texts_of, sizes_of};
 ghost use Rattle.replaying.specs.Texts.{TextsTo};
@@ -35,4 +35,21 @@ pub(crate) fn texts_of(script: &[u8]) -> Texts
         *size = put_text(script, k, &mut texts);
     }
     Texts { texts, sizes }
+}
+
+// The text of entry k's label, of so many bytes.
+pub(crate) fn text_of(texts: &[u8], k: usize, size: u8) -> &[u8]
+    ensures { result.now ≡ take size (drop (text_at k) texts.now) }
+{
+    let wanted = size as usize;
+    // As `&rest[..wanted.min(rest.len())]` it proves, but `printed_rows` then takes a third more instructions for a row.
+    if texts.len() / 32 < k {
+        return &texts[0..0];
+    }
+    let from = 32 * k;
+    if texts.len() - from < wanted {
+        return &texts[from..];
+    }
+    let end = from + wanted;
+    &texts[from..end]
 }
