@@ -89,16 +89,16 @@ next_rising t least s at =
       ends = omega (arith, (report_ends (is_event t i) s (at + 6)).told told next e);
     })
 
--- a number that was judged, handed back
-value_judged : (answer : Answer) (v next i : ℕ) → value_of (judged answer v next) ≡ Ok i → judged answer v next ≡ got i next
-value_judged (Ok _) v next i e = cc
+-- a number that was judged, handed back: it is the number, and it was read
+value_judged : (answer : Answer) (v next i : ℕ) → value_of (judged answer v next) ≡ Ok i → (v ≡ i) × (judged answer v next ≡ got i next)
+value_judged (Ok _) v next i e = (cc, cc)
 value_judged (Err r) v next i e = let z : ◌≡◌ {A = ℕ} 0 1 = cc in absurd (omega arith)
 
--- and the number of a field
+-- the same of the number of a field
 value_taken : (cut : Refusal) (judge : ℕ → Answer) (next : ℕ) (there : Option ℕ) (i : ℕ) → value_of (taken cut judge next there) ≡ Ok i
-    → taken cut judge next there ≡ got i next
+    → (there ≡ Some i) × (taken cut judge next there ≡ got i next)
 value_taken cut judge next None i e = let z : ◌≡◌ {A = ℕ} 0 1 = cc in absurd (omega arith)
-value_taken cut judge next (Some v) i e = value_judged (judge v) v next i e
+value_taken cut judge next (Some v) i e = let kept = value_judged (judge v) v next i e in (ap Some kept.0, kept.1)
 
 -- a refusal, handed back
 value_refused : (m : Got ℕ) (r : Refusal) → value_of m ≡ Err r → m ≡ refused r
@@ -115,10 +115,14 @@ module _ (t : Table) (least : ℕ) (s : List ℕ) (at : ℕ) where
   unfolding next_report
   next_refused r e = rw (value_refused (field Refusal.StepCut 6 (import_fault t least) s at) r e)
 
-  -- else what follows it is told of it
+  -- else it has 6 bits
+  pub import_narrow : (i : ℕ) → import_at ≡ Ok i → i < 64
+  import_narrow i e = omega (arith, there_lt s at 6 i (value_taken Refusal.StepCut (import_fault t least) (at + 6) (field_at s at 6) i e).0)
+
+  -- and what follows it is told of it
   pub next_given : (i : ℕ) → import_at ≡ Ok i → next_report t least s at ≡ about i (report_for (is_event t i) s (at + 6))
   unfolding next_report
-  next_given i e = rw (value_taken Refusal.StepCut (import_fault t least) (at + 6) (field_at s at 6) i e)
+  next_given i e = rw (value_taken Refusal.StepCut (import_fault t least) (at + 6) (field_at s at 6) i e).1
 
 -- a number, what is told of it, and what follows, taken together
 together : {B : Type 0} (m : Got ℕ) (f : ℕ → ℕ → Got Told) (g : Report → ℕ → Got B)
