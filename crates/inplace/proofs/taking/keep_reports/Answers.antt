@@ -1,7 +1,5 @@
 -- `inplace::taking::keep_reports` meets its contract. The loop's invariant: the reports of the first i imports are kept.
-use Prim.Native.Nat.{◌-◌}
-use native.Mathlib.Omega.{arith}
-use Rattle.inplace.specs.Reporting.{Reporting, reporting_none, reporting_more, reporting_all}
+use Rattle.inplace.specs.Reporting.{reporting_none, reporting_more}
 use Rattle.inplace.proofs.taking.keep_reports.Goals as goal
 
 pub loop-i-init : goal.loop-i-init
