@@ -20,12 +20,14 @@ use Rattle.step.specs.declared.TruthSlot.{TruthSlot}
 use Rattle.step.specs.declared.Taken.{Taken}
 use Rattle.step.specs.Steps.{Report, Step}
 use Rattle.step.specs.Taking.{told_at, truth_at, reported_now, told_slots, taken_of}
-use Rattle.step.specs.Hearing.{next_report, Rising, next_rising}
+use Rattle.step.specs.declared.Heard.{Heard}
+use Rattle.step.specs.Hearing.{next_report, Reported, Rising, next_rising}
 use Rattle.step.specs.Stages.{closed, after_count}
-use Rattle.step.specs.SoFar.{SoFar, heard_none, end_refused, end_accepted, next_stops, next_stored}
+use Rattle.step.specs.SoFar.{SoFar, heard_none, end_refused, end_accepted, next_stops, one_more}
 use Rattle.words.specs.Words.{told_word}
 use Rattle.hearing.specs.Hearing.{told_words}
-use Rattle.hearing.specs.Nexts.{Reported}
+use Rattle.hearing.specs.declared.Word.{Word}
+use Rattle.hearing.specs.Nexts.{as_word}
 
 -- the word of import i is kept, where there is such an import
 abbrev pub kept_at : List ℕ → ℕ → ℕ → List ℕ
@@ -131,8 +133,8 @@ pub record Gathers (t : Table) (count : ℕ) (s first words : List ℕ) (at leas
   pub hears : first ≡ replicate 64 0 → Hears t count s words at least left
 
 -- none is heard yet
-pub gathers_none : (t : Table) (count : ℕ) (s first : List ℕ) → Gathers t count s first first 53 0 count
-gathers_none t count s first =
+pub gathers_none : (t : Table) (count : ℕ) (s first : List ℕ) → {left : ℕ} → left ≡ count → Gathers t count s first first 53 0 left
+gathers_none t count s first all =
     record {
       place = omega arith;
       long = refl;
@@ -140,7 +142,7 @@ gathers_none t count s first =
           record {
             slots = replicate limits.imports (record { told = Told.Nothing });
             reported = unreported;
-            sofar = heard_none t count unreported s (length-replicate {A = TruthSlot} limits.imports (record { truth = Truth.Undefined }));
+            sofar = heard_none t count unreported s (length-replicate {A = TruthSlot} limits.imports (record { truth = Truth.Undefined })) all;
             are = empty ∙ words_none;
           };
     }
@@ -158,15 +160,16 @@ module _ {t : Table} {count : ℕ} {s words : List ℕ} {at least left : ℕ} (h
       record {
         slots = set h.slots r.imported (record { told = r.told });
         reported = set h.reported r.imported (record { truth = reported_now r.told (truth_at unreported r.imported) });
-        sofar = next_stored h.sofar more r next e refl refl refl refl refl refl;
+        sofar = one_more h.sofar more r next e;
         are =
             ap (λ (l : List ℕ). kept_at l r.imported (told_word r.told)) h.are ∙ word_kept h.slots slots_full r.imported r.told;
       }
 
 module _ {t : Table} {count : ℕ} {s first words : List ℕ} {at least left : ℕ} (g : Gathers t count s first words at least left) where
   -- the next report is refused
-  pub gathers_stops : 0 < left → (r : Refusal) → next_report t least s at ≡ refused r → first ≡ replicate 64 0 → Gathered t count s (Err r) words
-  gathers_stops more r e empty = gathered_refused r (λ time. next_stops (g.hears empty).sofar more time r e)
+  pub gathers_stops : 0 < left → (answer : Answer) (r : Refusal) → answer ≡ Err r → next_report t least s at ≡ refused r → first ≡ replicate 64 0
+      → Gathered t count s answer words
+  gathers_stops more answer r is e empty = rw is (gathered_refused r (λ time. next_stops (g.hears empty).sofar more time r e))
 
   -- no report is left: the end decides
   pub gathers_ends : left ≤ 0 → (answer : Answer) → answer ≡ closed s at → first ≡ replicate 64 0 → Gathered t count s answer words
@@ -176,15 +179,16 @@ module _ {t : Table} {count : ℕ} {s first words : List ℕ} {at least left : �
   gathers_ends none (Err r) e empty = gathered_refused r (λ time. end_refused (g.hears empty).sofar time none r (sym e))
 
   -- one report more
-  pub gathers_more : 0 < left → {i word next : ℕ} → Reported (next_report t least s at) i word next
-      → {words' : List ℕ} {at' least' left' : ℕ} → words' ≡ kept_at words i word → at' ≡ next → least' ≡ i + 1 → left' ≡ left - 1
-      → Gathers t count s first words' at' least' left'
-  gathers_more more {i} {word} {next} told kept ends above fewer =
+  pub gathers_more : 0 < left → {h : Heard Word} → Reported as_word (next_report t least s at) h
+      → {words' : List ℕ} {at' least' left' : ℕ} → words' ≡ kept_at words h.imported h.told.word → at' ≡ h.next → least' ≡ h.imported + 1
+      → left' ≡ left - 1 → Gathers t count s first words' at' least' left'
+  gathers_more more {h} told kept ends above fewer =
       let r : Report = told.report in
-      let is : Rising t least at r next = (next_rising t least s at).told r next told.is in
-      rw (kept, ends, above, fewer, ← told.imports, ← told.tells)
+      let is : Rising t least at r h.next = (next_rising t least s at).told r h.next told.is in
+      let tells : told_word r.told ≡ h.told.word = ap (λ (w : Word). w.word) told.tells in
+      rw (kept, ends, above, fewer, ← told.imports, ← tells)
       (record {
         place = omega (arith, g.place, is.ends);
         long = length_kept words r.imported (told_word r.told) ∙ g.long;
-        hears = λ empty. hears_more (g.hears empty) more r next told.is;
+        hears = λ empty. hears_more (g.hears empty) more r h.next told.is;
       })

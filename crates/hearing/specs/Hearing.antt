@@ -1,6 +1,7 @@
--- What is heard of a step: its answer, its time, and a word for what it tells of each import.
-use Rattle.std.specs.Prelude.{List, ◌≡◌, ℕ, Ok, Err}
+-- What is heard of a step: the refusal, or its time and a word for what it tells of each import.
+use Rattle.std.specs.Prelude.{List, ◌≡◌, ℕ, Result, Ok, Err}
 use Rattle.refusals.specs.declared.Refusal.{Refusal}
+use Rattle.refusals.specs.Answers.{Answer}
 use Rattle.bits.specs.Bits.{list_to}
 use Rattle.table.specs.declared.Table.{Table}
 use Rattle.table.specs.Tables.{is_event}
@@ -9,7 +10,6 @@ use Rattle.step.specs.declared.TruthSlot.{TruthSlot}
 use Rattle.step.specs.Reader.{read_step}
 use Rattle.step.specs.Taking.{told_at, taken_of}
 use Rattle.words.specs.Words.{event_word, told_word}
-use Rattle.hearing.specs.declared.Heading.{Heading}
 
 -- which imports are events, as words
 abbrev pub event_words : Table → List ℕ
@@ -19,12 +19,13 @@ event_words t = list_to 64 (λ i. event_word (is_event t i))
 abbrev pub told_words : List ToldSlot → List ℕ
 told_words slots = list_to 64 (λ i. told_word (told_at slots i))
 
--- a refusal; the time is not asked for then
-abbrev pub refused_heading : Refusal → Heading
-refused_heading r = record { answer = Err r; time = 0 }
+-- whether a step that was heard is accepted
+abbrev pub answer_of : Result ℕ Refusal → Answer
+answer_of (Ok time) = Ok tt
+answer_of (Err r) = Err r
 
 -- what was heard is what the step says, whatever was reported before it
-pub record Heard (t : Table) (earliest : ℕ) (bytes : List ℕ) (r : Heading) (words : List ℕ) : Type 0 where
-  pub answer : (before : List TruthSlot) → r.answer ≡ (taken_of before (read_step t earliest bytes 0)).answer
-  pub time : (before : List TruthSlot) → r.answer ≡ Ok tt → r.time ≡ (taken_of before (read_step t earliest bytes 0)).time
-  pub told : (before : List TruthSlot) → r.answer ≡ Ok tt → words ≡ told_words (taken_of before (read_step t earliest bytes 0)).told
+pub record Heard (t : Table) (earliest : ℕ) (bytes : List ℕ) (r : Result ℕ Refusal) (words : List ℕ) : Type 0 where
+  pub answer : (before : List TruthSlot) → answer_of r ≡ (taken_of before (read_step t earliest bytes 0)).answer
+  pub time : (before : List TruthSlot) (time : ℕ) → r ≡ Ok time → time ≡ (taken_of before (read_step t earliest bytes 0)).time
+  pub told : (before : List TruthSlot) (time : ℕ) → r ≡ Ok time → words ≡ told_words (taken_of before (read_step t earliest bytes 0)).told

@@ -4,5 +4,4 @@ pub mod Lent
 pub mod Nexts
 pub mod Gathering
 pub mod Whole
-pub mod Padding
 pub mod Reply

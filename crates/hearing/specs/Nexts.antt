@@ -1,38 +1,15 @@
--- One report of a step as it is handed back: its import, and the word of what it tells of it.
-use Rattle.std.specs.Prelude.{◌≡◌, refl, ℕ, suc, ◌+◌, ◌-◌, ◌<◌, ◌≤◌, ◌^◌, Result, Ok, Err}
-use Rattle.std.proofs.Common.{ap, arith, lt-ltb, le-ltb}
+-- What a report tells, as a word.
+use Rattle.std.specs.Prelude.{◌≡◌, ℕ, suc, ◌+◌, ◌-◌, ◌<◌, ◌≤◌, ◌^◌}
+use Rattle.std.proofs.Common.{arith, lt-ltb, le-ltb}
 use Rattle.values.specs.declared.Number.{Number}
-use Rattle.refusals.specs.declared.Refusal.{Refusal}
-use Rattle.bits.specs.Reading.{Got, got, refused}
 use Rattle.bits.specs.Twos.{signed}
-use Rattle.step.specs.Steps.{Report}
+use Rattle.step.specs.declared.Told.{Told}
 use Rattle.words.specs.Words.{zero_word, number_word, told_word}
-use Rattle.hearing.specs.declared.Next.{Next}
+use Rattle.hearing.specs.declared.Word.{Word}
 
--- what was read, as it is handed back
-abbrev pub next_of : Got Report → Result Next Refusal
-next_of (got r next) = Ok (record { imported = r.imported; word = told_word r.told; next = next })
-next_of (refused r) = Err r
-
--- the refusal that was handed back
-pub next_refused : (m : Got Report) (r : Refusal) → next_of m ≡ Err r → m ≡ refused r
-next_refused (got report next) r e = let z : ◌≡◌ {A = ℕ} 0 1 = cc in absurd (omega arith)
-next_refused (refused q) r e = cc
-
--- a report that was read, with the import, the word and the bit after it that were handed back
-pub record Reported (m : Got Report) (i word next : ℕ) : Type 0 where
-  pub report : Report
-  pub is : m ≡ got report next
-  pub imports : report.imported ≡ i
-  pub tells : told_word report.told ≡ word
-
--- the report that was handed back
-pub next_report_lem : (m : Got Report) (n : Next) → next_of m ≡ Ok n → Reported m n.imported n.word n.next
-next_report_lem (got r end) n e =
-    let same : record { imported = r.imported; word = told_word r.told; next = end } ≡ n = cc in
-    let ends : end ≡ n.next = ap (λ (x : Next). x.next) same in
-    record { report = r; is = rw ends refl; imports = ap (λ (x : Next). x.imported) same; tells = ap (λ (x : Next). x.word) same }
-next_report_lem (refused q) n e = let z : ◌≡◌ {A = ℕ} 0 1 = cc in absurd (omega arith)
+-- the word of what is told
+abbrev pub as_word : Told → Word
+as_word told = record { word = told_word told }
 
 -- 48 bits below 2^47 stand for themselves
 pub value_low : (v word : ℕ) → word ≡ zero_word + v → v < 2 ^ 47 → word ≡ number_word (Number.Whole (signed v))

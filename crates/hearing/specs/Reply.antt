@@ -1,44 +1,44 @@
 -- What a caller may look at of a step that was heard: the refusal, or the time and the words. It is determined.
-use Rattle.std.specs.Prelude.{List, [], ◌≡◌, refl, ℕ, Ok, Err}
+use Rattle.std.specs.Prelude.{List, [], ◌≡◌, refl, ℕ, Result, Ok, Err}
 use Rattle.std.proofs.Common.{sym, ◌∙◌, ap, ap₂}
 use Rattle.refusals.specs.declared.Refusal.{Refusal}
 use Rattle.refusals.specs.Answers.{Answer}
 use Rattle.table.specs.declared.Table.{Table}
 use Rattle.step.specs.Reader.{read_step}
 use Rattle.step.specs.Taking.{taken_of}
-use Rattle.hearing.specs.declared.Heading.{Heading}
-use Rattle.hearing.specs.Hearing.{told_words, Heard}
+use Rattle.hearing.specs.Hearing.{told_words, answer_of, Heard}
 
 -- a refusal, or a time and a word for each import
 pub data Reply : Type 0 where
   refusing : Refusal → Reply
   telling : ℕ → List ℕ → Reply
 
--- the time and the words are looked at only where nothing was refused
-abbrev pub reply_by : Answer → ℕ → List ℕ → Reply
+-- what a caller may look at: the time and the words only where nothing was refused
+abbrev pub reply_of : Result ℕ Refusal → List ℕ → Reply
+reply_of (Ok time) words = telling time words
+reply_of (Err r) words = refusing r
+
+-- the same of what is taken of a step
+abbrev reply_by : Answer → ℕ → List ℕ → Reply
 reply_by (Ok _) time words = telling time words
 reply_by (Err r) time words = refusing r
 
--- what a caller may look at
-abbrev pub reply_of : Heading → List ℕ → Reply
-reply_of h words = reply_by h.answer h.time words
-
--- at one answer, times and words that are the same where it accepts
-reply_same : (a : Answer) {time₁ time₂ : ℕ} {words₁ words₂ : List ℕ} → (a ≡ Ok tt → time₁ ≡ time₂) → (a ≡ Ok tt → words₁ ≡ words₂)
-    → reply_by a time₁ words₁ ≡ reply_by a time₂ words₂
-reply_same (Ok _) times words = ap₂ telling (times refl) (words refl)
-reply_same (Err r) times words = refl
+-- the reply to what was heard, by its answer, at a time and words that are its own where it is accepted
+reply_is : (heard : Result ℕ Refusal) {time : ℕ} {words own : List ℕ} → ((t : ℕ) → heard ≡ Ok t → t ≡ time) → ((t : ℕ) → heard ≡ Ok t → own ≡ words)
+    → reply_of heard own ≡ reply_by (answer_of heard) time words
+reply_is (Ok t) times words = ap₂ telling (times t refl) (words t refl)
+reply_is (Err r) times words = refl
 
 module _ {t : Table} {earliest : ℕ} {s : List ℕ} where
   -- what was heard is the step's own reply
-  heard_reply : {h : Heading} {words : List ℕ} → Heard t earliest s h words → let taken = taken_of [] (read_step t earliest s 0) in
-      reply_of h words ≡ reply_by taken.answer taken.time (told_words taken.told)
-  heard_reply {h} {words} is =
+  heard_reply : {heard : Result ℕ Refusal} {words : List ℕ} → Heard t earliest s heard words → let taken = taken_of [] (read_step t earliest s 0) in
+      reply_of heard words ≡ reply_by taken.answer taken.time (told_words taken.told)
+  heard_reply {heard} {words} is =
       let taken = taken_of [] (read_step t earliest s 0) in
-      reply_same h.answer (is.time []) (is.told []) ∙ ap (λ (a : Answer). reply_by a taken.time (told_words taken.told)) (is.answer [])
+      reply_is heard (is.time []) (is.told []) ∙ ap (λ (a : Answer). reply_by a taken.time (told_words taken.told)) (is.answer [])
 
   -- two replies that were heard are the same
-  pub heard_same : {h₁ h₂ : Heading} {words₁ words₂ : List ℕ} → Heard t earliest s h₁ words₁ → Heard t earliest s h₂ words₂
+  pub heard_same : {h₁ h₂ : Result ℕ Refusal} {words₁ words₂ : List ℕ} → Heard t earliest s h₁ words₁ → Heard t earliest s h₂ words₂
       → reply_of h₁ words₁ ≡ reply_of h₂ words₂
   heard_same p q = heard_reply p ∙ sym (heard_reply q)
 

@@ -2,22 +2,12 @@
 #![tactic(auto)]
 
 mod reading;
-mod report;
+mod telling;
 
 pub use reading::hear;
-use refusals::Refusal;
 
-// A step that was heard: its time, or the refusal.
+// What a report tells, as a word.
 #[derive(Clone, Copy)]
-pub struct Heading {
-    pub answer: Result<(), Refusal>,
-    pub time: u64,
-}
-
-// The next report: its import, the word of what it tells of it, and the bit after it.
-#[derive(Clone, Copy)]
-struct Next {
-    imported: usize,
+struct Word {
     word: u64,
-    next: usize,
 }

@@ -1,68 +1,46 @@
 // A step heard from front to back: its time, its reports one after another, and its end.
-ghost use Rattle.std.specs.Prelude.{◌≡◌, ◌≤◌, replicate};
-ghost use Rattle.bits.specs.Bits.{field_at, padding_at};
+ghost use Rattle.std.specs.Prelude.{◌≡◌, ◌≤◌, eqb, get_or, replicate};
 ghost use Rattle.table.specs.declared.Table as tables;
-ghost use Rattle.step.specs.Stages.{closed};
-ghost use Rattle.hearing.specs.Hearing.{event_words, refused_heading, Heard};
+ghost use Rattle.step.specs.Hearing.{heard_of, next_report};
+ghost use Rattle.hearing.specs.Hearing.{event_words, Heard};
 ghost use Rattle.hearing.specs.Lent.{lent};
+ghost use Rattle.hearing.specs.Nexts.{as_word};
 ghost use Rattle.hearing.specs.Gathering.{kept_at, Gathered};
 
-use crate::Heading;
-use crate::report::next_report;
+use crate::Word;
 use refusals::Refusal;
+use step::{close, import, report_for};
 use table::Table;
-
-// A refusal; the time is not asked for then.
-fn refused(refusal: Refusal) -> Heading
-    ensures { result ≡ refused_heading refusal }
-{
-    Heading {
-        answer: Err(refusal),
-        time: 0,
-    }
-}
 
 // The word of import i is kept, where there is such an import.
 fn keep(told: &mut [u64], i: usize, word: u64)
     ensures { told.new ≡ kept_at told.old i word }
 {
-    if i < Table::IMPORTS {
-        if i < told.len() {
-            told[i] = word;
-        }
+    if i < Table::IMPORTS && i < told.len() {
+        told[i] = word;
     }
 }
 
-// The bits from `at` on up to the end of its byte, or the answer that they are not there.
-fn rest_of_byte(s: &[u8], at: usize, w: usize) -> Option<u64>
-    requires { w ≡ padding_at at }
-    ensures { result ≡ field_at s.now at w }
+// "1 an event, 0 a condition"; past the words none is an event.
+fn is_event(events: &[u64], i: usize) -> bool
+    ensures { result ≡ eqb (get_or events.now i 0) 1 }
 {
-    if w == 0 {
-        return bits::field_at(s, at, w);
-    }
-    let Some(byte) = bits::byte_at(s, at / 8) else {
-        return None;
-    };
-    Some(byte % (1u64 << w))
+    events.get(i).copied().unwrap_or(0) == 1
 }
 
-// "Zero bits up to a whole byte end it."
-fn close(s: &[u8], at: usize) -> Result<(), Refusal>
+// The next report, read by what is lent of the table: how many imports it has, and which are events.
+fn next_report(
+    s: &[u8],
+    at: usize,
+    q: usize,
+    least: usize,
+    events: &[u64],
+) -> Result<step::Heard<Word>, Refusal>
     requires { at ≤ 4096 }
-    ensures { result ≡ closed s.now at }
+    ensures { result ≡ heard_of as_word (next_report (lent q events.now) least s.now at) }
 {
-    let w = (8 - at % 8) % 8;
-    let Some(zeros) = rest_of_byte(s, at, w) else {
-        return Err(Refusal::StepCut);
-    };
-    if zeros != 0 {
-        return Err(Refusal::StepPadding);
-    }
-    if (at + w) / 8 != s.len() {
-        return Err(Refusal::StepLeftOver);
-    }
-    Ok(())
+    let i = import(s, at, q, least)?;
+    report_for(s, at + 6, i, is_event(events, i))
 }
 
 // "the reports, import numbers strictly rising", and the end of the step.
@@ -78,38 +56,31 @@ fn reports(
 {
     let mut at: usize = 53;
     let mut least: usize = 0;
-    let mut left = count;
-    while 0 < left {
-        match next_report(s, at, q, least, events) {
-            Err(r) => {
-                return Err(r);
-            }
-            Ok(report) => {
-                keep(told, report.imported, report.word);
-                at = report.next;
-                least = report.imported + 1;
-            }
-        }
-        left -= 1;
+    for k in 0..count {
+        let report = next_report(s, at, q, least, events)?;
+        keep(told, report.imported, report.told.word);
+        at = report.next;
+        least = report.imported + 1;
     }
     close(s, at)
 }
 
-// A step read from front to back: what it tells of each import goes into `told`, as words; `q` imports, `events` says which are events.
-pub fn hear(q: usize, earliest: u64, events: &[u64], s: &[u8], told: &mut [u64]) -> Heading
+// A step read from front to back: its time, or the first fault. What it tells of each import goes into `told`, as words; there are `q` imports, and
+// `events` says which are events.
+pub fn hear(
+    q: usize,
+    earliest: u64,
+    events: &[u64],
+    s: &[u8],
+    told: &mut [u64],
+) -> Result<u64, Refusal>
     ensures { (t : tables.Table) → t.q ≡ q → events.now ≡ event_words t → told.old ≡ replicate 64 0 → Heard t earliest s.now result told.new }
 {
-    let Some(time) = bits::field_at(s, 0, 47) else {
-        return refused(Refusal::StepCut);
-    };
+    let time = bits::field_at(s, 0, 47).ok_or(Refusal::StepCut)?;
     if time < earliest {
-        return refused(Refusal::Time);
+        return Err(Refusal::Time);
     }
-    let Some(count) = bits::field_at(s, 47, 6) else {
-        return refused(Refusal::StepCut);
-    };
-    Heading {
-        answer: reports(q, count as usize, events, s, told),
-        time: time,
-    }
+    let count = bits::field_at(s, 47, 6).ok_or(Refusal::StepCut)?;
+    reports(q, count as usize, events, s, told)?;
+    Ok(time)
 }

@@ -1,5 +1,5 @@
 -- A step taken in place answers as the monitor does, leaves the words of the monitor after it, and shows its results.
-use Rattle.std.specs.Prelude.{Bool, true, false, ◌&&◌, ◌≡◌, refl, length, replicate, take, drop, Ok, Err}
+use Rattle.std.specs.Prelude.{Bool, true, false, ◌&&◌, ◌≡◌, refl, length, replicate, take, drop, Result, Ok, Err}
 use Rattle.std.proofs.Math.Bool.{cond}
 use mathlib.Core.List.{List}
 use Rattle.std.proofs.Math.Path.{sym, ap}
@@ -26,8 +26,7 @@ use Rattle.monitor.specs.Walking.{slots_enough}
 use Rattle.words.specs.Words.{outcome_word}
 use Rattle.words.specs.Layout.{Kept, state_of}
 use Rattle.words.specs.Standing.{length_state, last_set, last_there, entries_count, imports_count, events_part}
-use Rattle.hearing.specs.declared.Heading.{Heading}
-use Rattle.hearing.specs.Hearing.{event_words, told_words, Heard}
+use Rattle.hearing.specs.Hearing.{event_words, told_words, answer_of, Heard}
 use Rattle.inplace.specs.Reporting.{Spoken, Reported, reported_to, reported_in, reported_all}
 use Rattle.inplace.specs.Saying.{taken_spoken, taken_fits}
 use Rattle.inplace.specs.Turning.{Walked, forgotten, forgotten_first, forgotten_rest}
@@ -126,11 +125,11 @@ unfolding advanced
 after_all m s n entries = ap (λ (k : ℕ). state_of (monitor_after m s (walk_to m s k))) entries
 
 -- what the words of a monitor tell the reading of a step: its imports, and the earliest time
-pub record Listened (q : ℕ) (state bytes : List ℕ) (r : Heading) (told : List ℕ) : Type 0 where
+pub record Listened (q : ℕ) (state bytes : List ℕ) (r : Result ℕ Refusal) (told : List ℕ) : Type 0 where
   pub heard : (m : Monitor) → q ≡ m.table.q → state ≡ state_of m → Heard m.table m.last bytes r told
 
 -- a step was heard by the imports that stand in the words
-pub listened : {q earliest : ℕ} {state events bytes before : List ℕ} {r : Heading} {told : List ℕ}
+pub listened : {q earliest : ℕ} {state events bytes before : List ℕ} {r : Result ℕ Refusal} {told : List ℕ}
     → ((t : Table) → t.q ≡ q → events ≡ event_words t → before ≡ replicate 64 0 → Heard t earliest bytes r told)
     → earliest ≡ get_or state 3 0 → events ≡ take (388 - 324) (drop 324 state) → before ≡ replicate 64 0
     → Listened q state bytes r told
@@ -141,45 +140,45 @@ listened {state = state} {bytes = bytes} {r = r} {told = told} hear last lent no
           (hear m.table (sym imports) (lent ∙ ap (λ (l : List ℕ). take 64 (drop 324 l)) words ∙ events_part m) none);
     }
 
-module _ (n q : ℕ) (bytes state results told : List ℕ) (heading : Heading) (long : length results ≡ 128) (listen : Listened q state bytes heading told) where
+module _ (n q : ℕ) (bytes state results told : List ℕ) (heading : Result ℕ Refusal) (long : length results ≡ 128) (listen : Listened q state bytes heading told) where
   -- the answer is what the monitor reads
-  answers : (m : Monitor) → q ≡ m.table.q → state ≡ state_of m → heading.answer ≡ (taken_by m bytes).answer
+  answers : (m : Monitor) → q ≡ m.table.q → state ≡ state_of m → answer_of heading ≡ (taken_by m bytes).answer
   unfolding taken_by
   answers m imports words = (listen.heard m imports words).answer m.reported
 
   -- what is told, where the step is accepted
-  told_is : (m : Monitor) → q ≡ m.table.q → state ≡ state_of m → heading.answer ≡ Ok tt → told ≡ told_words (taken_by m bytes).told
+  told_is : (m : Monitor) → q ≡ m.table.q → state ≡ state_of m → (time : ℕ) → heading ≡ Ok time → told ≡ told_words (taken_by m bytes).told
   unfolding taken_by
-  told_is m imports words is = (listen.heard m imports words).told m.reported is
+  told_is m imports words time is = (listen.heard m imports words).told m.reported time is
 
   -- and when
-  time_is : (m : Monitor) → q ≡ m.table.q → state ≡ state_of m → heading.answer ≡ Ok tt → heading.time ≡ (taken_by m bytes).time
+  time_is : (m : Monitor) → q ≡ m.table.q → state ≡ state_of m → (time : ℕ) → heading ≡ Ok time → time ≡ (taken_by m bytes).time
   unfolding taken_by
-  time_is m imports words is = (listen.heard m imports words).time m.reported is
+  time_is m imports words time is = (listen.heard m imports words).time m.reported time is
 
   -- "A refused step returns the monitor unchanged": its words, and the slots as they were
-  pub takes_refused : (r : Refusal) → heading.answer ≡ Err r → Takes n q bytes (Err r) state results state results
+  pub takes_refused : (answer : Answer) (r : Refusal) → answer ≡ Err r → heading ≡ Err r → Takes n q bytes answer state results state results
   unfolding shown_over
-  takes_refused r is =
-      record {
+  takes_refused answer r refusing is =
+      rw refusing (record {
         taken = λ m shape good entries imports words.
-            let reply = step_refused m good bytes r (sym (answers m imports words) ∙ is) in
+            let reply = step_refused m good bytes r (sym (answers m imports words) ∙ ap answer_of is) in
             record {
               answer = sym (ap (λ (x : Stepped). x.answer) reply);
               words = words ∙ sym (ap (λ (x : Stepped). state_of x.monitor) reply);
               slots = list_is 128 (λ j. get_or results j 0) 0 results long (λ j h. refl) ∙ sym (ap (λ (x : Stepped). shown_over x m.table.n results) reply);
             };
-      }
+      })
 
   -- no step that is read has a time out of range
-  pub takes_late : heading.answer ≡ Ok tt → 2 ^ 47 ≤ heading.time → Takes n q bytes (Err Refusal.Unsound) state results state results
-  takes_late is late =
+  pub takes_late : (time : ℕ) → heading ≡ Ok time → 2 ^ 47 ≤ time → Takes n q bytes (Err Refusal.Unsound) state results state results
+  takes_late time is late =
       record {
         taken = λ m shape good entries imports words.
-            absurd (omega (arith, (taken_fits m bytes (sym (answers m imports words) ∙ is)).time, time_is m imports words is, late));
+            absurd (omega (arith, (taken_fits m bytes (sym (answers m imports words) ∙ ap answer_of is)).time, time_is m imports words time is, late));
       }
 
-  module _ {time : ℕ} {later shown : List ℕ} (is : heading.answer ≡ Ok tt) (stamp : time ≡ heading.time) (slots : length shown ≡ 128)
+  module _ {time : ℕ} {later shown : List ℕ} (is : heading ≡ Ok time) (slots : length shown ≡ 128)
       (adv : Advanced told n q time state results later shown) where
     -- the slots show the results: each of the first n, and the others stay
     slots_shown : (m : Monitor) (s : Taken) → n ≡ m.table.n
@@ -202,9 +201,9 @@ module _ (n q : ℕ) (bytes state results told : List ℕ) (heading : Heading) (
             → Taking m bytes (Ok tt) results later shown
         by m shape good entries imports words =
             let s = taken_by m bytes in
-            let read = sym (answers m imports words) ∙ is in
+            let read = sym (answers m imports words) ∙ ap answer_of is in
             let reply = step_accepted m good bytes read in
-            let ready : Ready m s told time = record { shape = shape; sound = good; fits = taken_fits m bytes read; heard = told_is m imports words is; now = stamp ∙ time_is m imports words is } in
+            let ready : Ready m s told time = record { shape = shape; sound = good; fits = taken_fits m bytes read; heard = told_is m imports words time is; now = time_is m imports words time is } in
             let come = adv.all m s ready (taken_spoken m bytes read) entries imports words in
             record {
               answer = sym (ap (λ (x : Stepped). x.answer) reply);

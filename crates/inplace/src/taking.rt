@@ -1,11 +1,13 @@
 // A step: heard, its reports kept, its entries taken.
-ghost use Rattle.std.specs.Prelude.{◌≡◌, ◌+◌, ◌<◌, ◌≤◌, ◌^◌, length, set};
+ghost use Rattle.std.specs.Prelude.{◌≡◌, ◌+◌, ◌<◌, ◌≤◌, ◌^◌, set};
 ghost use Rattle.inplace.specs.Reporting.{report_word, Reported};
 ghost use Rattle.inplace.specs.Taking.{Advanced, Takes, Took};
 
 use crate::walk::{forget, walk};
 use hearing::hear;
 use refusals::Refusal;
+use table::Table;
+use words::WORDS;
 
 // The word of an import's last reported value: this step's report of a condition, else what was reported before.
 fn report_word(told: u64, before: u64) -> u64
@@ -19,8 +21,8 @@ fn report_word(told: u64, before: u64) -> u64
 }
 
 // The last reported values of the first q imports, after this step's reports.
-fn keep_reports(state: &mut [u64], told: &[u64], q: usize)
-    requires { (length state.old ≡ 452) × (length told.now ≡ 64) × (q ≤ 48) }
+fn keep_reports(state: &mut [u64; WORDS], told: &[u64; 64], q: usize)
+    requires { q ≤ 48 }
     ensures { Reported told.now q state.old state.new }
 {
     for i in 0..q {
@@ -29,16 +31,23 @@ fn keep_reports(state: &mut [u64], told: &[u64], q: usize)
 }
 
 // The time of an accepted step, kept as one more than it.
-fn stamp(state: &mut [u64], time: u64)
-    requires { (length state.old ≡ 452) × (time < 2 ^ 47) }
+fn stamp(state: &mut [u64; WORDS], time: u64)
+    requires { time < 2 ^ 47 }
     ensures { state.new ≡ set state.old 3 (time + 1) }
 {
     state[3] = time + 1;
 }
 
 // An accepted step.
-fn advance(state: &mut [u64], told: &[u64], results: &mut [u64], n: usize, q: usize, time: u64)
-    requires { (length state.old ≡ 452) × (length told.now ≡ 64) × (length results.old ≡ 128) × (n ≤ 128) × (q ≤ 48) × (time < 2 ^ 47) }
+fn advance(
+    state: &mut [u64; WORDS],
+    told: &[u64; 64],
+    results: &mut [u64; Table::ENTRIES],
+    n: usize,
+    q: usize,
+    time: u64,
+)
+    requires { (n ≤ 128) × (q ≤ 48) × (time < 2 ^ 47) }
     ensures { Advanced told.now n q time state.old results.old state.new results.new }
 {
     keep_reports(state, told, q);
@@ -49,28 +58,23 @@ fn advance(state: &mut [u64], told: &[u64], results: &mut [u64], n: usize, q: us
 
 // A step of words that have the room of a monitor: what the bytes say, then the entries in order.
 fn heard(
-    state: &mut [u64],
+    state: &mut [u64; WORDS],
     s: &[u8],
-    results: &mut [u64],
+    results: &mut [u64; Table::ENTRIES],
     n: usize,
     q: usize,
 ) -> Result<(), Refusal>
-    requires { (length state.old ≡ 452) × (length results.old ≡ 128) × (n ≤ 128) × (q ≤ 48) }
+    requires { (n ≤ 128) × (q ≤ 48) }
     ensures { Takes n q s.now result state.old results.old state.new results.new }
 {
     let mut told = [0u64; 64];
-    let heading = hear(q, state[3], &state[324..388], s, &mut told);
-    let answer = heading.answer;
-    match answer {
-        Err(r) => Err(r),
-        Ok(()) => {
-            if 140737488355328 <= heading.time {
-                return Err(Refusal::Unsound);
-            }
-            advance(state, &told, results, n, q, heading.time);
-            Ok(())
-        }
+    let time = hear(q, state[3], &state[324..388], s, &mut told)?;
+    let late = 140737488355328 <= time;
+    if late {
+        return Err(Refusal::Unsound);
     }
+    advance(state, &told, results, n, q, time);
+    Ok(())
 }
 
 // A step taken in place, without the test for 29: on the words of a sound monitor it leaves those of the monitor after the step, and the
@@ -78,12 +82,10 @@ fn heard(
 pub fn take(state: &mut [u64], s: &[u8], results: &mut [u64]) -> Result<(), Refusal>
     ensures { Took s.now result state.old results.old state.new results.new }
 {
-    if state.len() != 452 {
-        return Err(Refusal::Unsound);
-    }
-    if results.len() != 128 {
-        return Err(Refusal::Unsound);
-    }
+    let state = state.as_mut_array::<WORDS>().ok_or(Refusal::Unsound)?;
+    let results = results
+        .as_mut_array::<{ Table::ENTRIES }>()
+        .ok_or(Refusal::Unsound)?;
     let n = state[0];
     let q = state[1];
     let crowded = 128 < n;

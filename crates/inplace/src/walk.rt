@@ -1,9 +1,11 @@
 // The entries in script order, each judged on words, in place.
-ghost use Rattle.std.specs.Prelude.{◌≡◌, ◌<◌, ◌≤◌, ◌^◌, length};
+ghost use Rattle.std.specs.Prelude.{◌≡◌, ◌<◌, ◌≤◌, ◌^◌};
 ghost use Rattle.inplace.specs.Numbers.{number_taken};
 ghost use Rattle.inplace.specs.Turning.{Advances, Walked, forgotten};
 
 use judging::judge;
+use table::Table;
+use words::WORDS;
 
 // The word of the number in a result; any other result counts as an undefined number.
 fn number_taken(y: u64) -> u64
@@ -13,8 +15,14 @@ fn number_taken(y: u64) -> u64
 }
 
 // Entry k: its result, what it remembers, and the variable that it changes if it is an update that is done.
-fn take_entry(state: &mut [u64], told: &[u64], results: &mut [u64], k: usize, time: u64)
-    requires { (length state.old ≡ 452) × (length told.now ≡ 64) × (length results.old ≡ 128) × (k < 128) × (time < 2 ^ 47) }
+fn take_entry(
+    state: &mut [u64; WORDS],
+    told: &[u64; 64],
+    results: &mut [u64; Table::ENTRIES],
+    k: usize,
+    time: u64,
+)
+    requires { (k < 128) × (time < 2 ^ 47) }
     ensures { Advances told.now time k state.old results.old state.new results.new }
 {
     let w = state[4 + k];
@@ -43,8 +51,14 @@ fn take_entry(state: &mut [u64], told: &[u64], results: &mut [u64], k: usize, ti
 }
 
 // "Entries are taken in script order within a step."
-pub(crate) fn walk(state: &mut [u64], told: &[u64], results: &mut [u64], n: usize, time: u64)
-    requires { (length state.old ≡ 452) × (length told.now ≡ 64) × (length results.old ≡ 128) × (n ≤ 128) × (time < 2 ^ 47) }
+pub(crate) fn walk(
+    state: &mut [u64; WORDS],
+    told: &[u64; 64],
+    results: &mut [u64; Table::ENTRIES],
+    n: usize,
+    time: u64,
+)
+    requires { (n ≤ 128) × (time < 2 ^ 47) }
     ensures { Walked told.now time n state.old results.old state.new results.new }
 {
     for k in 0..n {
@@ -53,8 +67,7 @@ pub(crate) fn walk(state: &mut [u64], told: &[u64], results: &mut [u64], n: usiz
 }
 
 // The first result, not yet known: an entry with no operand entry looks there. The others are not looked at before they are known.
-pub(crate) fn forget(results: &mut [u64], n: usize)
-    requires { length results.old ≡ 128 }
+pub(crate) fn forget(results: &mut [u64; Table::ENTRIES], n: usize)
     ensures { results.new ≡ forgotten results.old n }
 {
     if 0 < n {

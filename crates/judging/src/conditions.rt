@@ -3,7 +3,7 @@ ghost use Rattle.std.specs.Prelude.{◌≡◌};
 ghost use Rattle.judging.specs.Leaves.{defined_word, pair_word, pair_cell, not_word, or_word, and_word, implies_word, less_word, equal_word, property_of};
 
 use crate::Judged;
-use crate::picking::{pick, truth};
+use crate::picking::{pick, truth, wholes};
 
 // "defined": true unless the condition is undefined.
 pub(crate) fn defined(x: u64) -> u64
@@ -19,7 +19,7 @@ pub(crate) fn pair(x: u64, y: u64, cell: u64) -> Judged
     let opened = ((0 < cell) | (x == 6)) & !(y == 6);
     Judged {
         outcome: pick(opened, 3, 2),
-        cell: pick(opened, 1, 0),
+        cell: u64::from(opened),
     }
 }
 
@@ -55,7 +55,7 @@ pub(crate) fn implies(x: u64, y: u64) -> u64
 pub(crate) fn less(x: u64, y: u64) -> u64
     ensures { result ≡ less_word x y }
 {
-    let known = (x >> 48 == 1) & (y >> 48 == 1);
+    let known = wholes(x, y);
     truth(known & (x < y), known & !(x < y))
 }
 
@@ -63,7 +63,7 @@ pub(crate) fn less(x: u64, y: u64) -> u64
 pub(crate) fn equal(x: u64, y: u64) -> u64
     ensures { result ≡ equal_word x y }
 {
-    let known = (x >> 48 == 1) & (y >> 48 == 1);
+    let known = wholes(x, y);
     truth(known & (x == y), known & !(x == y))
 }
 

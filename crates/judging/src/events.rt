@@ -18,7 +18,7 @@ pub(crate) fn start(x: u64, cell: u64) -> Judged
 {
     Judged {
         outcome: pick((x == 3) & !(0 < cell), 6, 5),
-        cell: pick(x == 3, 1, 0),
+        cell: u64::from(x == 3),
     }
 }
 
@@ -28,7 +28,7 @@ pub(crate) fn end(x: u64, cell: u64) -> Judged
 {
     Judged {
         outcome: pick((x == 2) & !(0 < cell), 6, 5),
-        cell: pick(x == 2, 1, 0),
+        cell: u64::from(x == 2),
     }
 }
 

@@ -29,6 +29,8 @@ fn keep(outcome: u64, cell: u64) -> Judged
 }
 
 // An entry by its word w, by the words x and y at its operand entries, by what the step and the variables tell it, and by what it remembers.
+// Nine arguments, for reason (a): a judging is one row of the table of words, and the contract (`result_word`, `cell_word`) names each of them.
+#[tactic(auto, unfolding(crate::specs::Rows::result_word, crate::specs::Rows::cell_word))]
 pub fn judge(
     w: u64,
     x: u64,

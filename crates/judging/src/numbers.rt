@@ -3,7 +3,7 @@ ghost use Rattle.std.specs.Prelude.{◌≡◌};
 ghost use Rattle.judging.specs.Leaves.{sum_word, difference_word, value_word, kept_word, time_word, time_cell};
 
 use crate::Judged;
-use crate::picking::pick;
+use crate::picking::{pick, wholes};
 
 // The word of the number 0.
 const ZERO: u64 = 422212465065984;
@@ -12,7 +12,7 @@ const ZERO: u64 = 422212465065984;
 pub(crate) fn sum(x: u64, y: u64) -> u64
     ensures { result ≡ sum_word x y }
 {
-    if (x >> 48 == 1) & (y >> 48 == 1) {
+    if wholes(x, y) {
         let s = x + y - ZERO;
         pick(s >> 48 == 1, s, 4)
     } else {
@@ -24,7 +24,7 @@ pub(crate) fn sum(x: u64, y: u64) -> u64
 pub(crate) fn difference(x: u64, y: u64) -> u64
     ensures { result ≡ difference_word x y }
 {
-    if (x >> 48 == 1) & (y >> 48 == 1) {
+    if wholes(x, y) {
         let d = x + ZERO - y;
         pick(d >> 48 == 1, d, 4)
     } else {

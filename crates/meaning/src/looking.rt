@@ -18,34 +18,34 @@ fn looking(first: u16, second: u16, imported: u16, variable: u16) -> Places
 }
 
 // Where an entry looks, by the operands of its kind.
+#[tactic(auto, unfolding(crate::specs::Places::places_of, table::specs::Kinds::operands_of))]
 pub fn places_of(e: Entry) -> Places
     ensures { result ≡ places_of e }
 {
     match e {
-        Entry::ImportedCondition(i) => looking(0, 0, i, 0),
-        Entry::Defined(a) => looking(a, 0, 0, 0),
-        Entry::Pair(a, b) => looking(a, b, 0, 0),
-        Entry::Not(a) => looking(a, 0, 0, 0),
-        Entry::Or(a, b) => looking(a, b, 0, 0),
-        Entry::And(a, b) => looking(a, b, 0, 0),
-        Entry::Implies(a, b) => looking(a, b, 0, 0),
-        Entry::Less(a, b) => looking(a, b, 0, 0),
-        Entry::Equal(a, b) => looking(a, b, 0, 0),
-        Entry::ImportedEvent(i) => looking(0, 0, i, 0),
-        Entry::Start(a) => looking(a, 0, 0, 0),
-        Entry::End(a) => looking(a, 0, 0, 0),
-        Entry::Both(a, b) => looking(a, b, 0, 0),
-        Entry::Either(a, b) => looking(a, b, 0, 0),
-        Entry::When(a, b) => looking(a, b, 0, 0),
-        Entry::Constant(_) => looking(0, 0, 0, 0),
+        Entry::Constant(_) | Entry::Clock => looking(0, 0, 0, 0),
         Entry::Variable(v) => looking(0, 0, 0, v),
-        Entry::Sum(a, b) => looking(a, b, 0, 0),
-        Entry::Difference(a, b) => looking(a, b, 0, 0),
-        Entry::Clock => looking(0, 0, 0, 0),
-        Entry::Value(i) => looking(0, 0, i, 0),
-        Entry::Time(a) => looking(a, 0, 0, 0),
+        Entry::ImportedCondition(i) | Entry::ImportedEvent(i) | Entry::Value(i) => {
+            looking(0, 0, i, 0)
+        }
+        Entry::Defined(a)
+        | Entry::Not(a)
+        | Entry::Start(a)
+        | Entry::End(a)
+        | Entry::Time(a)
+        | Entry::Alarm(a)
+        | Entry::Property(a) => looking(a, 0, 0, 0),
+        Entry::Pair(a, b)
+        | Entry::Or(a, b)
+        | Entry::And(a, b)
+        | Entry::Implies(a, b)
+        | Entry::Less(a, b)
+        | Entry::Equal(a, b)
+        | Entry::Both(a, b)
+        | Entry::Either(a, b)
+        | Entry::When(a, b)
+        | Entry::Sum(a, b)
+        | Entry::Difference(a, b) => looking(a, b, 0, 0),
         Entry::Update(a, v, b) => looking(a, b, 0, v),
-        Entry::Alarm(a) => looking(a, 0, 0, 0),
-        Entry::Property(a) => looking(a, 0, 0, 0),
     }
 }

@@ -13,11 +13,7 @@ use values::{Number, Outcome, Truth};
 fn occurs(told: Told) -> bool
     ensures { result ≡ occurs_in told }
 {
-    match told {
-        Told::Nothing => false,
-        Told::Condition(c) => false,
-        Told::Event(x) => true,
-    }
+    matches!(told, Told::Event(_))
 }
 
 // "Value is the value reported in this step, else undefined."
@@ -25,9 +21,8 @@ fn value(told: Told) -> Number
     ensures { result ≡ value_in told }
 {
     match told {
-        Told::Nothing => Number::Undefined,
-        Told::Condition(c) => Number::Undefined,
         Told::Event(x) => x,
+        Told::Nothing | Told::Condition(_) => Number::Undefined,
     }
 }
 
@@ -58,10 +53,7 @@ pub fn result(e: Entry, x: Outcome, y: Outcome, g: Givens) -> Outcome
     ensures { result ≡ meaning e x y g }
 {
     match e {
-        Entry::ImportedCondition(_) => {
-            let reported = g.reported;
-            Outcome::Condition(reported)
-        }
+        Entry::ImportedCondition(_) => Outcome::Condition(g.reported),
         Entry::Defined(_) => Outcome::Condition(x.condition().defined()),
         Entry::Pair(_, _) => Outcome::Condition(Truth::from(g.paired)),
         Entry::Not(_) => Outcome::Condition(x.condition().not()),
@@ -70,31 +62,19 @@ pub fn result(e: Entry, x: Outcome, y: Outcome, g: Givens) -> Outcome
         Entry::Implies(_, _) => Outcome::Condition(x.condition().implies(y.condition())),
         Entry::Less(_, _) => Outcome::Condition(x.number().less(y.number())),
         Entry::Equal(_, _) => Outcome::Condition(x.number().equal(y.number())),
-        Entry::ImportedEvent(_) => {
-            let told = g.told;
-            Outcome::Event(occurs(told))
-        }
+        Entry::ImportedEvent(_) => Outcome::Event(occurs(g.told)),
         Entry::Start(_) => Outcome::Event(starts(x.condition(), g.stood)),
         Entry::End(_) => Outcome::Event(ends(x.condition(), g.failed)),
         Entry::Both(_, _) => Outcome::Event(x.event() & y.event()),
         Entry::Either(_, _) => Outcome::Event(x.event() | y.event()),
         Entry::When(_, _) => Outcome::Event(when(x.event(), y.condition())),
         Entry::Constant(z) => Outcome::Numeric(Number::Whole(z)),
-        Entry::Variable(_) => {
-            let held = g.held;
-            Outcome::Numeric(held)
-        }
+        Entry::Variable(_) => Outcome::Numeric(g.held),
         Entry::Sum(_, _) => Outcome::Numeric(x.number().sum(y.number())),
         Entry::Difference(_, _) => Outcome::Numeric(x.number().difference(y.number())),
         Entry::Clock => Outcome::Numeric(Number::Whole(g.clock)),
-        Entry::Value(_) => {
-            let told = g.told;
-            Outcome::Numeric(value(told))
-        }
-        Entry::Time(_) => {
-            let latest = g.latest;
-            Outcome::Numeric(latest)
-        }
+        Entry::Value(_) => Outcome::Numeric(value(g.told)),
+        Entry::Time(_) => Outcome::Numeric(g.latest),
         Entry::Update(_, _, _) => Outcome::Done(x.event()),
         Entry::Alarm(_) => Outcome::Raised(x.event()),
         Entry::Property(_) => Outcome::Property(x.condition()),

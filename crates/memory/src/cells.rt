@@ -9,20 +9,14 @@ use values::Outcome;
 pub(crate) fn open_now(was_open: bool, first: bool, second: bool) -> bool
     ensures { result ≡ open_now was_open first second }
 {
-    if second {
-        return false;
-    }
-    if was_open {
-        return true;
-    }
-    first
+    (was_open | first) & !second
 }
 
 // A mark in a cell.
 fn mark(b: bool) -> u64
     ensures { result ≡ mark b }
 {
-    if b { 1 } else { 0 }
+    u64::from(b)
 }
 
 // A kept time: now, or as it was kept.

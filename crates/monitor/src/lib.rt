@@ -30,14 +30,16 @@ pub struct Monitor {
     pub cells: [u64; Table::ENTRIES],
 }
 
-// A start: a monitor, or 29 and the monitor of the empty table.
+// A start: a monitor, or 29 and the monitor of the empty table. No Result, for reason (a): "a start on a table at fault gives 29 and the monitor
+// of the empty table" (document 01).
 #[derive(Clone, Copy)]
 pub struct Started {
     pub answer: Result<(), Refusal>,
     pub monitor: Monitor,
 }
 
-// A step: the new monitor and its results, or the refusal, the monitor as it came and 128 times "no result".
+// A step: the new monitor and its results, or the refusal, the monitor as it came and 128 times "no result". No Result, for reason (a): "a refused
+// step returns the monitor unchanged and 128 times 'no result'" (document 01).
 #[derive(Clone, Copy)]
 pub struct Stepped {
     pub answer: Result<(), Refusal>,
@@ -49,14 +51,15 @@ pub struct Stepped {
 fn fresh(t: Table) -> Monitor
     ensures { result ≡ fresh t }
 {
-    let variables = t.variables;
+    // a local, for reason (c): a field that is an array, put into a literal straight, has no generated proof
+    let held = t.variables;
     Monitor {
         table: t,
         last: 0,
         reported: [TruthSlot {
             truth: Truth::Undefined,
         }; Table::IMPORTS],
-        held: variables,
+        held,
         cells: [0; Table::ENTRIES],
     }
 }
@@ -70,7 +73,7 @@ pub fn start(t: Table) -> Started
             answer: Ok(()),
             monitor: fresh(t),
         },
-        Err(r) => Started {
+        Err(_) => Started {
             answer: Err(Refusal::Unsound),
             monitor: fresh(Table::empty()),
         },
@@ -95,8 +98,7 @@ fn reply(m: Monitor, taken: Taken) -> Stepped
     requires { (unsound m ≡ Ok tt) × (taken.time < 2 ^ 47) }
     ensures { result ≡ step_reply taken.answer m taken }
 {
-    let answer = taken.answer;
-    match answer {
+    match taken.answer {
         Ok(()) => advance(m, taken),
         Err(r) => refused(r, m),
     }
@@ -107,11 +109,7 @@ pub fn step(m: Monitor, s: &[u8]) -> Stepped
     ensures { result ≡ step_of m s.now }
 {
     match unsound(m) {
-        Ok(()) => {
-            let table = m.table;
-            let reported = m.reported;
-            reply(m, step::read(table, m.last, reported, s))
-        }
+        Ok(()) => reply(m, step::read(m.table, m.last, m.reported, s)),
         Err(fault) => refused(fault, m),
     }
 }

@@ -1,5 +1,8 @@
 // One accepted step: the entries in script order.
 ghost use Rattle.std.specs.Prelude.{◌≡◌, suc, ◌<◌, ◌^◌, pos, Ok};
+ghost use Rattle.table.specs.Tables.{entry_at};
+ghost use Rattle.meaning.specs.Places.{places_of};
+ghost use Rattle.meaning.specs.Inside.{Inside};
 ghost use Rattle.meaning.specs.Meaning.{meaning};
 ghost use Rattle.memory.specs.Memory.{memory_of, remember};
 ghost use Rattle.memory.specs.Recall.{givens_from};
@@ -7,7 +10,7 @@ ghost use Rattle.monitor.specs.Keeping.{unsound};
 ghost use Rattle.monitor.specs.Stepping.{advanced};
 
 use crate::{Monitor, Stepped};
-use meaning::{places_of, result};
+use meaning::{Places, places_of, result};
 use memory::{givens, memory_of, remember};
 use step::{Taken, Told};
 use table::{Entry, Table, VariableSlot};
@@ -21,6 +24,7 @@ struct Judged {
 }
 
 // An entry by the results x and y at its operand entries, by what the step and the variables tell it, and by what it remembers.
+// Eight arguments, for reason (d): a struct of them would be made and taken apart at this one call, and the contract names each of them.
 fn judge(
     e: Entry,
     x: Outcome,
@@ -42,56 +46,55 @@ fn judge(
     }
 }
 
+// Where entry k looks: in a sound monitor there is a slot for each place.
+fn places_at(m: &Monitor, k: usize) -> Places
+    requires { (unsound m.now ≡ Ok tt) × (k < m.now.table.n) }
+    ensures are { result ≡ places_of (entry_at m.now.table k) }
+    ensures inside { Inside result }
+{
+    places_of(m.table.entries[k].entry)
+}
+
 // "Entries are taken in script order within a step."
 pub(crate) fn advance(m: Monitor, s: Taken) -> Stepped
     requires { (unsound m ≡ Ok tt) × (s.time < 2 ^ 47) }
     ensures { result ≡ advanced m s }
 {
-    let table = m.table;
-    let time = s.time;
     let mut held = m.held;
     let mut cells = m.cells;
     let mut results = [Slot {
         outcome: Outcome::Nothing,
     }; Table::ENTRIES];
-    let mut k: usize = 0;
-    while k < table.n {
-        let slot = table.entries[k];
-        let e = slot.entry;
-        let p = places_of(e);
-        let first = p.first;
-        let second = p.second;
-        let imported = p.imported;
-        let variable = p.variable;
-        let x_slot = results[first];
-        let x = x_slot.outcome;
-        let y_slot = results[second];
-        let y = y_slot.outcome;
-        let told_slot = s.told[imported];
-        let told = told_slot.told;
-        let truth_slot = s.reported[imported];
-        let truth = truth_slot.truth;
-        let held_slot = held[variable];
-        let number = held_slot.number;
-        let judged = judge(e, x, y, told, truth, number, time, m.cells[k]);
-        let o = judged.outcome;
-        results[k] = Slot { outcome: o };
+    for k in 0..m.table.n {
+        let p = places_at(&m, k);
+        let y = results[p.second].outcome;
+        let judged = judge(
+            m.table.entries[k].entry,
+            results[p.first].outcome,
+            y,
+            s.told[p.imported].told,
+            s.reported[p.imported].truth,
+            held[p.variable].number,
+            s.time,
+            m.cells[k],
+        );
+        results[k] = Slot {
+            outcome: judged.outcome,
+        };
         cells[k] = judged.cell;
-        if o.done() {
-            held[variable] = VariableSlot { number: y.number() };
+        if judged.outcome.done() {
+            held[p.variable] = VariableSlot { number: y.number() };
         }
-        k += 1;
     }
-    let reported = s.reported;
     Stepped {
         answer: Ok(()),
         monitor: Monitor {
-            table: table,
-            last: time + 1,
-            reported: reported,
-            held: held,
-            cells: cells,
+            table: m.table,
+            last: s.time + 1,
+            reported: s.reported,
+            held,
+            cells,
         },
-        results: results,
+        results,
     }
 }

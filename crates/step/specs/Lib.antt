@@ -5,5 +5,6 @@ pub mod Taking
 pub mod Hearing
 pub mod Telling
 pub mod Stages
+pub mod Padding
 pub mod SoFar
 pub mod Laws

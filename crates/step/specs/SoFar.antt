@@ -18,7 +18,8 @@ use Rattle.step.specs.declared.TruthSlot.{TruthSlot}
 use Rattle.step.specs.Steps.{Report, told_by}
 use Rattle.step.specs.Reader.{reports}
 use Rattle.step.specs.Taking.{truth_at, reported_now, told_slots, reported_after, taken_of}
-use Rattle.step.specs.Hearing.{next_report, Rising, next_rising, reports_next}
+use Rattle.step.specs.declared.Heard.{Heard}
+use Rattle.step.specs.Hearing.{next_report, Reported, Rising, next_rising, reports_next}
 use Rattle.step.specs.Stages.{after_reports, after_count, closed, closed_accepted, closed_refused}
 use Rattle.step.specs.Telling.{told_none, reported_none, told_more, reported_more}
 
@@ -38,13 +39,13 @@ pub record SoFar (t : Table) (count : ℕ) (before : List TruthSlot) (s : List �
   pub rising : (i : ℕ) → least ≤ i → (others : List Report) → told_by (heard ++ others) i ≡ told_by others i
 
 -- none is heard yet
-pub heard_none : (t : Table) (count : ℕ) (before : List TruthSlot) (s : List ℕ) → length before ≡ limits.imports
-    → SoFar t count before s (replicate limits.imports (record { told = Told.Nothing })) before 53 0 count
-heard_none t count before s full =
+pub heard_none : (t : Table) (count : ℕ) (before : List TruthSlot) (s : List ℕ) → length before ≡ limits.imports → {left : ℕ} → left ≡ count
+    → SoFar t count before s (replicate limits.imports (record { told = Told.Nothing })) before 53 0 left
+heard_none t count before s full all =
     record {
       heard = [];
       place = omega arith;
-      rest = refl;
+      rest = rw all refl;
       tells = sym told_none;
       leaves = sym (reported_none before full);
       rising = λ i h others. refl;
@@ -88,7 +89,7 @@ module _ {t : Table} {count : ℕ} {before : List TruthSlot} {s : List ℕ} {tol
 
     module _ (r : Report) (next : ℕ) (e : next_report t least s at ≡ got r next) where
       -- one report more
-      one_more : SoFar t count before s (set told r.imported (record { told = r.told }))
+      pub one_more : SoFar t count before s (set told r.imported (record { told = r.told }))
           (set reported r.imported (record { truth = reported_now r.told (truth_at before r.imported) })) next (r.imported + 1) (left - 1)
       unfolding told_by
       one_more =
@@ -110,19 +111,23 @@ module _ {t : Table} {count : ℕ} {before : List TruthSlot} {s : List ℕ} {tol
                 ∙ rw (ne_eqb r.imported i (λ same. omega arith));
           }
 
-      module _ {told' : List ToldSlot} {reported' : List TruthSlot} {at' least' left' : ℕ}
-          (ends : at' ≡ next) (above : least' ≡ r.imported + 1) (fewer : left' ≡ left - 1) where
-        -- stored in its slots
-        pub next_stored : {now : Truth} → told' ≡ set told r.imported (record { told = r.told })
-            → reported' ≡ set reported r.imported (record { truth = now }) → now ≡ reported_now r.told (truth_at before r.imported)
-            → SoFar t count before s told' reported' at' least' left'
-        next_stored tells leaves is = rw (tells, leaves, is, ends, above, fewer) one_more
+    module _ {h : Heard Told} (told-is : Reported (λ told. told) (next_report t least s at) h)
+        {told' : List ToldSlot} {reported' : List TruthSlot} {at' least' left' : ℕ}
+        (ends : at' ≡ h.next) (above : least' ≡ h.imported + 1) (fewer : left' ≡ left - 1) where
+      -- stored in its slots
+      pub next_stored : {now : Truth} → told' ≡ set told h.imported (record { told = h.told })
+          → reported' ≡ set reported h.imported (record { truth = now }) → now ≡ reported_now h.told (truth_at before h.imported)
+          → SoFar t count before s told' reported' at' least' left'
+      next_stored tells leaves is =
+          rw (tells, leaves, is, ends, above, fewer, ← told-is.imports, ← told-is.tells) (one_more told-is.report h.next told-is.is)
 
-        -- past the slots nothing is stored
-        pub next_past : limits.imports ≤ r.imported → told' ≡ told → reported' ≡ reported → SoFar t count before s told' reported' at' least' left'
-        unfolding told_slots reported_after
-        next_past past tells leaves =
-            let long : length told ≡ limits.imports = ap length sofar.tells ∙ length_list limits.imports _ in
-            let wide : length reported ≡ limits.imports = ap length sofar.leaves ∙ length_list limits.imports _ in
-            rw (tells, leaves, ends, above, fewer)
-            (rw (set_out told r.imported _ (omega arith), set_out reported r.imported _ (omega arith)) at one_more)
+      -- past the slots nothing is stored
+      pub next_past : limits.imports ≤ h.imported → told' ≡ told → reported' ≡ reported → SoFar t count before s told' reported' at' least' left'
+      unfolding told_slots reported_after
+      next_past past tells leaves =
+          let long : length told ≡ limits.imports = ap length sofar.tells ∙ length_list limits.imports _ in
+          let wide : length reported ≡ limits.imports = ap length sofar.leaves ∙ length_list limits.imports _ in
+          let r = told-is.report in
+          let far : limits.imports ≤ r.imported = omega (arith, told-is.imports) in
+          rw (tells, leaves, ends, above, fewer, ← told-is.imports)
+          (rw (set_out told r.imported _ (omega arith), set_out reported r.imported _ (omega arith)) at (one_more r h.next told-is.is))

@@ -1,5 +1,5 @@
 -- A step, a stage at a time: what is left to read after the report count, and after the reports.
-use Rattle.std.specs.Prelude.{List, [], ◌≡◌, refl, ℕ, ◌≤◌, Ok, Err, Some, None}
+use Rattle.std.specs.Prelude.{List, [], ◌≡◌, refl, ℕ, ◌≤◌, Result, Ok, Err, Some, None}
 use Rattle.std.proofs.Common.{sym, ◌∙◌, arith}
 use Rattle.std.proofs.Math.Path.{ap}
 use borrow.Author.Tests.{le-leb}
@@ -12,7 +12,7 @@ use Rattle.step.specs.declared.TruthSlot.{TruthSlot}
 use Rattle.step.specs.declared.Taken.{Taken}
 use Rattle.step.specs.Steps.{Report, Step}
 use Rattle.step.specs.Reader.{reports, read_step}
-use Rattle.step.specs.Taking.{taken_of}
+use Rattle.step.specs.Taking.{taken_of, taken_from}
 
 -- "Zero bits up to a whole byte end it."
 abbrev pub closing : Reading ℕ
@@ -28,9 +28,10 @@ after_reports time s told at =
 abbrev pub after_count : Table → ℕ → ℕ → List ℕ → Got Step
 after_count t time count s = onward (reports t count 0 [] s 53) (after_reports time s)
 
--- where a rest decides the whole, what is taken of the rest is taken of the whole
-pub taken_whole : (before : List TruthSlot) {taken : Taken} {whole rest : Got Step} → taken ≡ taken_of before rest → whole ≡ rest → taken ≡ taken_of before whole
-taken_whole before e is = e ∙ sym (ap (taken_of before) is)
+-- a refusal that was handed back is the step's own
+pub taken_refused : (before : List TruthSlot) (answer : Result Taken Refusal) {whole : Got Step} (r : Refusal) → answer ≡ Err r → whole ≡ refused r
+    → taken_from before answer ≡ taken_of before whole
+taken_refused before answer r is stops = rw (is, stops)
 
 -- whether a step ends here as it should
 unfoldable pub closed : List ℕ → ℕ → Answer

@@ -1,6 +1,7 @@
 -- What is taken from a step: its time, what it tells of each import, and the last reported values after it.
-use Rattle.std.specs.Prelude.{List, ℕ, get_or, replicate, Ok, Err}
+use Rattle.std.specs.Prelude.{List, ℕ, get_or, replicate, Result, Ok, Err}
 use Rattle.values.specs.declared.Truth.{Truth}
+use Rattle.refusals.specs.declared.Refusal.{Refusal}
 use Rattle.bits.specs.Bits.{list_to}
 use Rattle.bits.specs.Reading.{Got, got, refused}
 use Rattle.table.specs.Limits.{limits}
@@ -48,3 +49,8 @@ taken_of before (refused r) =
       told = replicate limits.imports (record { told = Told.Nothing });
       reported = before;
     }
+
+-- the same of what was taken, or of the refusal
+abbrev pub taken_from : List TruthSlot → Result Taken Refusal → Taken
+taken_from before (Ok taken) = taken
+taken_from before (Err r) = taken_of before (refused r)

@@ -1,12 +1,17 @@
 // A step read from its bytes. Its meaning, bit by bit, stands in specs/.
 #![tactic(auto)]
 
+mod closing;
 mod reading;
 mod report;
+mod telling;
 
+pub use closing::close;
 pub use reading::read;
 use refusals::Refusal;
+pub use report::{import, report_for};
 use table::Table;
+pub use telling::Telling;
 use values::{Number, Truth};
 
 // What a step tells of an import: nothing, a condition's value, or that an event occurs, with its value.
@@ -30,6 +35,7 @@ pub struct TruthSlot {
 }
 
 // A step that was read: its time, what it tells of each import, and the last reported values after it; or the refusal.
+// No Result, for reason (a): of a refusal too the contract of `read` says that nothing is told and the reported values are as they came.
 #[derive(Clone, Copy)]
 pub struct Taken {
     pub answer: Result<(), Refusal>,
@@ -40,8 +46,8 @@ pub struct Taken {
 
 // A report that was heard: its import, what it tells of it, and the bit after it.
 #[derive(Clone, Copy)]
-struct Heard {
-    imported: usize,
-    told: Told,
-    next: usize,
+pub struct Heard<T> {
+    pub imported: usize,
+    pub told: T,
+    pub next: usize,
 }

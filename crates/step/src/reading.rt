@@ -1,58 +1,46 @@
 // A step read from front to back: its time, its reports one after another, and its end.
-ghost use Rattle.std.specs.Prelude.{◌≡◌, ◌≤◌};
-ghost use Rattle.bits.specs.Reading as reading;
+ghost use Rattle.std.specs.Prelude.{false, ◌≡◌, ◌≤◌, get_or};
+ghost use Rattle.table.specs.declared.Table as tables;
 ghost use Rattle.step.specs.Reader.{read_step};
-ghost use Rattle.step.specs.Taking.{reported_now, taken_of};
-ghost use Rattle.step.specs.Stages.{closed, after_count};
+ghost use Rattle.step.specs.Taking.{reported_now, taken_of, taken_from};
+ghost use Rattle.step.specs.Hearing.{heard_of, next_report};
+ghost use Rattle.step.specs.Stages.{after_count};
 
-use crate::report::next_report;
-use crate::{Taken, Told, ToldSlot, TruthSlot};
+use crate::{Heard, Taken, Told, ToldSlot, TruthSlot, close, import, report_for};
 use refusals::Refusal;
 use table::Table;
 use values::Truth;
-
-// A refusal: nothing is told, and the reported values are as they came.
-fn refused(refusal: Refusal, reported: [TruthSlot; Table::IMPORTS]) -> Taken
-    ensures { result ≡ taken_of reported (reading.refused refusal) }
-{
-    Taken {
-        answer: Err(refusal),
-        time: 0,
-        told: [ToldSlot {
-            told: Told::Nothing,
-        }; Table::IMPORTS],
-        reported: reported,
-    }
-}
 
 // This step's report of a condition, else what was reported before.
 fn reported_now(told: Told, before: Truth) -> Truth
     ensures { result ≡ reported_now told before }
 {
     match told {
-        Told::Nothing => before,
         Told::Condition(c) => c,
-        Told::Event(_) => before,
+        Told::Nothing | Told::Event(_) => before,
     }
 }
 
-// "Zero bits up to a whole byte end it."
-fn close(s: &[u8], at: usize) -> Result<(), Refusal>
-    requires { at ≤ 4096 }
-    ensures { result ≡ closed s.now at }
+// Whether an import is an event; past the slots none is.
+fn is_event(events: &[bool], i: usize) -> bool
+    ensures { result ≡ get_or events.now i false }
 {
-    let w = (8 - at % 8) % 8;
-    let Some(zeros) = bits::field_at(s, at, w) else {
-        return Err(Refusal::StepCut);
-    };
-    let padded = zeros != 0;
-    if padded {
-        return Err(Refusal::StepPadding);
-    }
-    if (at + w) / 8 != s.len() {
-        return Err(Refusal::StepLeftOver);
-    }
-    Ok(())
+    if i < events.len() { events[i] } else { false }
+}
+
+// The next report, by how many imports there are and which are events.
+fn next_report(
+    s: &[u8],
+    at: usize,
+    q: usize,
+    least: usize,
+    events: &[bool],
+) -> Result<Heard<Told>, Refusal>
+    requires { at ≤ 4096 }
+    ensures { (t : tables.Table) → t.q ≡ q → t.events ≡ events.now → result ≡ heard_of (λ told. told) (next_report t least s.now at) }
+{
+    let i = import(s, at, q, least)?;
+    report_for(s, at + 6, i, is_event(events, i))
 }
 
 // "the reports, import numbers strictly rising", and the end of the step.
@@ -62,9 +50,9 @@ fn reports(
     count: usize,
     earlier: [TruthSlot; Table::IMPORTS],
     s: &[u8],
-) -> Taken
+) -> Result<Taken, Refusal>
     requires { count ≤ 63 }
-    ensures { result ≡ taken_of earlier (after_count t time count s.now) }
+    ensures { taken_from earlier result ≡ taken_of earlier (after_count t time count s.now) }
 {
     let mut told = [ToldSlot {
         told: Told::Nothing,
@@ -72,49 +60,57 @@ fn reports(
     let mut reported = earlier;
     let mut at: usize = 53;
     let mut least: usize = 0;
-    let mut left = count;
-    while 0 < left {
-        match next_report(s, at, t.q, least, &t.events) {
-            Err(r) => {
-                return refused(r, earlier);
-            }
-            Ok(heard) => {
-                let i = heard.imported;
-                if i < Table::IMPORTS {
-                    told[i] = ToldSlot { told: heard.told };
-                    reported[i] = TruthSlot {
-                        truth: reported_now(heard.told, earlier[i].truth),
-                    };
-                }
-                at = heard.next;
-                least = i + 1;
-            }
+    for k in 0..count {
+        let report = next_report(s, at, t.q, least, &t.events)?;
+        let i = report.imported;
+        if i < Table::IMPORTS {
+            told[i] = ToldSlot { told: report.told };
+            reported[i] = TruthSlot {
+                truth: reported_now(report.told, earlier[i].truth),
+            };
         }
-        left -= 1;
+        at = report.next;
+        least = i + 1;
     }
-    match close(s, at) {
-        Err(r) => refused(r, earlier),
-        Ok(()) => Taken {
-            answer: Ok(()),
-            time: time,
-            told: told,
-            reported: reported,
-        },
-    }
+    close(s, at)?;
+    Ok(Taken {
+        answer: Ok(()),
+        time,
+        told,
+        reported,
+    })
 }
 
-// A step read from front to back: what it tells, or the first fault.
+// A step that is taken, or the first fault.
+fn accepted(
+    t: Table,
+    earliest: u64,
+    reported: [TruthSlot; Table::IMPORTS],
+    s: &[u8],
+) -> Result<Taken, Refusal>
+    ensures { taken_from reported result ≡ taken_of reported (read_step t earliest s.now 0) }
+{
+    let time = bits::field_at(s, 0, 47).ok_or(Refusal::StepCut)?;
+    if time < earliest {
+        return Err(Refusal::Time);
+    }
+    let count = bits::field_at(s, 47, 6).ok_or(Refusal::StepCut)?;
+    reports(t, time, count as usize, reported, s)
+}
+
+// A step read from front to back: what it tells, or the first fault; of a refused one nothing is told, and the reported values are as they came.
 pub fn read(t: Table, earliest: u64, reported: [TruthSlot; Table::IMPORTS], s: &[u8]) -> Taken
     ensures { result ≡ taken_of reported (read_step t earliest s.now 0) }
 {
-    let Some(time) = bits::field_at(s, 0, 47) else {
-        return refused(Refusal::StepCut, reported);
-    };
-    if time < earliest {
-        return refused(Refusal::Time, reported);
+    match accepted(t, earliest, reported, s) {
+        Ok(taken) => taken,
+        Err(refusal) => Taken {
+            answer: Err(refusal),
+            time: 0,
+            told: [ToldSlot {
+                told: Told::Nothing,
+            }; Table::IMPORTS],
+            reported,
+        },
     }
-    let Some(count) = bits::field_at(s, 47, 6) else {
-        return refused(Refusal::StepCut, reported);
-    };
-    reports(t, time, count as usize, reported, s)
 }

@@ -1,112 +1,79 @@
 // One report of a step: its import number, judged, and what follows it.
-ghost use Rattle.std.specs.Prelude.{false, ◌≡◌, ◌≤◌, get_or};
+ghost use Rattle.std.specs.Prelude.{◌≡◌, ◌≤◌};
 ghost use Rattle.table.specs.declared.Table as tables;
-ghost use Rattle.step.specs.Reader.{truth_code, condition_report, event_report, report_for};
-ghost use Rattle.step.specs.Hearing.{heard_of, about, next_report};
+ghost use Rattle.step.specs.Reader.{condition_report, event_report, report_for};
+ghost use Rattle.step.specs.Hearing.{import_at, heard_of, about};
 
-use crate::{Heard, Told};
+use crate::{Heard, Telling};
 use refusals::Refusal;
-use values::{Number, Truth};
-
-// "00 false, 01 true, 10 undefined"
-fn truth_of(code: u64) -> Truth
-    ensures { result ≡ truth_code code }
-{
-    if code == 0 {
-        return Truth::False;
-    }
-    if code == 1 {
-        return Truth::True;
-    }
-    Truth::Undefined
-}
 
 // "for a condition 2 bits (00 false, 01 true, 10 undefined)"; 11 is refused
-fn condition(s: &[u8], at: usize, i: usize) -> Result<Heard, Refusal>
+fn condition<T: Telling>(s: &[u8], at: usize, imported: usize) -> Result<Heard<T>, Refusal>
     requires { at ≤ 65536 }
-    ensures { result ≡ heard_of (about i (condition_report s.now at)) }
+    ensures { result ≡ heard_of T.form (about imported (condition_report s.now at)) }
 {
-    let Some(code) = bits::field_at(s, at, 2) else {
-        return Err(Refusal::StepCut);
-    };
+    let code = bits::field_at(s, at, 2).ok_or(Refusal::StepCut)?;
     let unknown = 3 <= code;
     if unknown {
         return Err(Refusal::ConditionReport);
     }
     Ok(Heard {
-        imported: i,
-        told: Told::Condition(truth_of(code)),
+        imported,
+        told: T::condition(code),
         next: at + 2,
     })
 }
 
 // "for an event 1 bit and, if that is 1, a 48-bit value"
-fn event(s: &[u8], at: usize, i: usize) -> Result<Heard, Refusal>
+fn event<T: Telling>(s: &[u8], at: usize, imported: usize) -> Result<Heard<T>, Refusal>
     requires { at ≤ 65536 }
-    ensures { result ≡ heard_of (about i (event_report s.now at)) }
+    ensures { result ≡ heard_of T.form (about imported (event_report s.now at)) }
 {
-    let Some(bit) = bits::field_at(s, at, 1) else {
-        return Err(Refusal::StepCut);
-    };
+    let bit = bits::field_at(s, at, 1).ok_or(Refusal::StepCut)?;
     let first = at + 1;
     if bit != 1 {
         return Ok(Heard {
-            imported: i,
-            told: Told::Event(Number::Undefined),
+            imported,
+            told: T::event(),
             next: first,
         });
     }
-    let Some(value) = bits::field_at(s, first, 48) else {
-        return Err(Refusal::StepCut);
-    };
+    let value = bits::field_at(s, first, 48).ok_or(Refusal::StepCut)?;
     Ok(Heard {
-        imported: i,
-        told: Told::Event(Number::Whole(bits::signed(value))),
+        imported,
+        told: T::valued(value),
         next: first + 48,
     })
 }
 
-// What follows the number of import i, for an event and for a condition.
-fn report(s: &[u8], at: usize, i: usize, of_event: bool) -> Result<Heard, Refusal>
-    requires { at ≤ 65536 }
-    ensures { result ≡ heard_of (about i (report_for of_event s.now at)) }
-{
-    if of_event {
-        return event(s, at, i);
-    }
-    condition(s, at, i)
-}
-
-// Whether an import is an event; past the slots none is.
-fn is_event(events: &[bool], i: usize) -> bool
-    ensures { result ≡ get_or events.now i false }
-{
-    if i < events.len() {
-        return events[i];
-    }
-    false
-}
-
-// The next report, read by what is lent of the table: how many imports it has, and which are events.
-pub(crate) fn next_report(
+// What follows the number of an import, for an event and for a condition.
+pub fn report_for<T: Telling>(
     s: &[u8],
     at: usize,
-    q: usize,
-    least: usize,
-    events: &[bool],
-) -> Result<Heard, Refusal>
-    requires { at ≤ 4096 }
-    ensures { (t : tables.Table) → t.q ≡ q → t.events ≡ events.now → result ≡ heard_of (next_report t least s.now at) }
+    imported: usize,
+    of_event: bool,
+) -> Result<Heard<T>, Refusal>
+    requires { at ≤ 65536 }
+    ensures { result ≡ heard_of T.form (about imported (report_for of_event s.now at)) }
 {
-    let Some(i) = bits::field_at(s, at, 6) else {
-        return Err(Refusal::StepCut);
-    };
-    let i = i as usize;
+    if of_event {
+        event(s, at, imported)
+    } else {
+        condition(s, at, imported)
+    }
+}
+
+// The import number of a report, judged: there are q imports, and the least that may come is `least`.
+pub fn import(s: &[u8], at: usize, q: usize, least: usize) -> Result<usize, Refusal>
+    requires { at ≤ 65536 }
+    ensures { (t : tables.Table) → t.q ≡ q → result ≡ import_at t least s.now at }
+{
+    let i = bits::field_at(s, at, 6).ok_or(Refusal::StepCut)? as usize;
     if q <= i {
         return Err(Refusal::StepImport);
     }
     if i < least {
         return Err(Refusal::ImportOrder);
     }
-    report(s, at + 6, i, is_event(events, i))
+    Ok(i)
 }

@@ -1,52 +1,63 @@
 -- `hearing::reading::hear` meets its contract: the time and the report count are fields, and the reports decide the rest.
-use Rattle.std.proofs.Common.{Some}
-use borrow.Author.Tests.{lt-leb}
-use mathlib.Core.Path.{◌≡◌, sym, ◌∙◌}
-use Prim.Native.Nat.{ℕ}
-use native.Mathlib.Omega.{arith}
+use Rattle.std.proofs.Common.{◌≡◌, ◌≤◌, Some, refl, sym, ◌∙◌, rules, arith}
+use Rattle.std.proofs.lemmas.Bool.{lt-leb}
 use Rattle.bits.specs.Bits.{field_at}
 use Rattle.bits.specs.Fields.{there_lt}
-use Rattle.step.specs.Reader.{time_first}
-use Rattle.step.specs.Stages.{time_cut, count_cut, on_count}
+use Rattle.step.specs.Reader.{read_step, time_first}
+use Rattle.step.specs.Stages.{after_count, time_cut, count_cut, on_count}
 use Rattle.hearing.specs.Lent.{lent}
-use Rattle.hearing.specs.Whole.{heard_refused, heard_gathered}
+use Rattle.hearing.specs.Whole.{heard_refused, heard_stopped, heard_passed}
+use Rattle.hearing.proofs.reading.hear.Goals.{In_ok-time, In_ok-count}
 use Rattle.hearing.proofs.reading.hear.Goals as goal
 
-pub returns-in_default : goal.returns-in_default
-returns-in_default c t counted are empty =
+-- the time that was taken
+time-is : (k : In_ok-time) → field_at k.args.s.now 0 47 ≡ Some k.in_ok-time.time
+time-is k = sym k.field_at.ensures ∙ k.in_ok-time.ensures.ok_part
+
+-- the report count that was taken
+count-is : (k : In_ok-count) → field_at k.args.s.now 47 6 ≡ Some k.in_ok-count.count
+count-is k = sym k.field_at-2.ensures ∙ k.in_ok-count.ensures.ok_part
+
+pub returns-in_err-time : goal.returns-in_err-time
+returns-in_err-time c t counted are empty =
     let a = c.args in
-    heard_refused t a.q a.events.now counted are a.earliest a.s.now _
-    (time_cut (lent a.q a.events.now) a.earliest a.s.now (sym c.field_at.ensures ∙ c.in_default.is)) c.refused.ensures
+    heard_refused t a.q a.events.now counted are a.earliest a.s.now c.from_residual.result _
+    (time_cut (lent a.q a.events.now) a.earliest a.s.now (sym c.field_at.ensures ∙ c.in_err-time.ensures.ok_part)) (search rules)
 
 pub returns-then-time-earliest : goal.returns-then-time-earliest
 returns-then-time-earliest c t counted are empty =
-    let time : ℕ = c.in-Some.time in
-    let time_is : field_at c.args.s.now 0 47 ≡ Some time = sym c.field_at.ensures ∙ c.in-Some.is in
     let a = c.args in
-    heard_refused t a.q a.events.now counted are a.earliest a.s.now _
-    (time_first (lent a.q a.events.now) a.earliest time a.s.now time_is (lt-leb a.earliest time (omega arith)))
-    c.refused-then-time-earliest.ensures
+    let time = c.in_ok-time.time in
+    heard_refused t a.q a.events.now counted are a.earliest a.s.now _ _
+    (time_first (lent a.q a.events.now) a.earliest time a.s.now (time-is (goal.at.returns-then-time-earliest c).In_ok-time)
+    (lt-leb a.earliest time (omega arith))) refl
 
-pub returns-in_default-field_at : goal.returns-in_default-field_at
-returns-in_default-field_at c t counted are empty =
-    let time : ℕ = c.in-Some.time in
-    let time_is : field_at c.args.s.now 0 47 ≡ Some time = sym c.field_at.ensures ∙ c.in-Some.is in
+pub returns-in_err-count : goal.returns-in_err-count
+returns-in_err-count c t counted are empty =
     let a = c.args in
-    heard_refused t a.q a.events.now counted are a.earliest a.s.now _
-    (count_cut (lent a.q a.events.now) a.earliest a.s.now time time_is (omega arith)
-    (sym c.field_at-2.ensures ∙ c.in_default-field_at.is)) c.refused-in_default-field_at.ensures
+    heard_refused t a.q a.events.now counted are a.earliest a.s.now c.from_residual-in_err-count.result _
+    (count_cut (lent a.q a.events.now) a.earliest a.s.now c.in_ok-time.time (time-is (goal.at.returns-in_err-count c).In_ok-time) (omega arith)
+    (sym c.field_at-2.ensures ∙ c.in_err-count.ensures.ok_part)) (search rules)
 
 pub reports-requires : goal.reports-requires
-reports-requires c =
-    let count-is : field_at c.args.s.now 47 6 ≡ Some c.in-Some-field_at.count = sym c.field_at-2.ensures ∙ c.in-Some-field_at.is in
-    omega (arith, there_lt _ 47 6 _ count-is)
+reports-requires c = omega (arith, there_lt _ 47 6 _ (count-is (goal.at.reports-requires c).In_ok-count))
+
+-- the reports decide
+goes-on : (k : In_ok-count) → let a = k.args in
+    a.earliest ≤ k.in_ok-time.time
+    → read_step (lent a.q a.events.now) a.earliest a.s.now 0 ≡ after_count (lent a.q a.events.now) k.in_ok-time.time k.in_ok-count.count a.s.now
+goes-on k late =
+    let a = k.args in
+    on_count (lent a.q a.events.now) a.earliest a.s.now k.in_ok-time.time (sym k.field_at.ensures ∙ k.in_ok-time.ensures.ok_part) late k.in_ok-count.count (count-is k)
+
+pub returns-in_err-reports : goal.returns-in_err-reports
+returns-in_err-reports c t counted are empty =
+    let a = c.args in
+    heard_stopped t a.q a.events.now counted are a.earliest a.s.now c.in_ok-time.time c.in_ok-count.count
+    (goes-on (goal.at.returns-in_err-reports c).In_ok-count (omega arith)) c.from_residual-in_err-reports.result _ (search rules) (c.in_err-reports.ensures empty)
 
 pub returns : goal.returns
 returns c t counted are empty =
-    let time : ℕ = c.in-Some.time in
-    let time_is : field_at c.args.s.now 0 47 ≡ Some time = sym c.field_at.ensures ∙ c.in-Some.is in
-    let count-is : field_at c.args.s.now 47 6 ≡ Some c.in-Some-field_at.count = sym c.field_at-2.ensures ∙ c.in-Some-field_at.is in
     let a = c.args in
-    heard_gathered t a.q a.events.now counted are a.earliest a.s.now time c.in-Some-field_at.count
-    (on_count (lent a.q a.events.now) a.earliest a.s.now time time_is (omega arith) c.in-Some-field_at.count count-is)
-    (c.reports.ensures empty)
+    heard_passed t a.q a.events.now counted are a.earliest a.s.now c.in_ok-time.time c.in_ok-count.count
+    (goes-on (goal.at.returns c).In_ok-count (omega arith)) (c.in_ok-reports.ensures empty)

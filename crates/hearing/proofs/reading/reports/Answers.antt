@@ -1,32 +1,32 @@
--- `hearing::reading::reports` meets its contract. The loop's invariant: the words of the reports so far; the measure is how many are left.
-use mathlib.Core.Path.{◌≡◌, sym, ◌∙◌}
-use native.Mathlib.Omega.{arith}
-use Rattle.step.specs.Hearing.{next_report, next_rising}
+-- `hearing::reading::reports` meets its contract, by the words of the reports so far.
+use Rattle.std.proofs.Common.{refl, sym, rules, arith}
+use Rattle.step.specs.Hearing.{next_report, heard_refused, Reported, heard_report, next_rising}
 use Rattle.hearing.specs.Lent.{lent}
-use Rattle.hearing.specs.Nexts.{next_of, next_refused, Reported, next_report_lem}
-use Rattle.hearing.specs.Gathering.{Gathers, gathers_none, gathers_stops, gathers_ends, gathers_more}
+use Rattle.hearing.specs.Nexts.{as_word}
+use Rattle.hearing.specs.Gathering.{gathers_none, gathers_stops, gathers_ends, gathers_more}
+use Rattle.hearing.proofs.reading.reports.Goals.{In_ok-report}
 use Rattle.hearing.proofs.reading.reports.Goals as goal
 
-pub loop-left-init : goal.loop-left-init
-loop-left-init c = gathers_none _ _ _ _
+pub loop-k-init : goal.loop-k-init
+loop-k-init c = gathers_none _ _ _ _ (omega arith)
 
-pub returns-in-Err : goal.returns-in-Err
-returns-in-Err c empty =
-    let report-is : let a = c.args in next_of (next_report (lent a.q a.events.now) c.loop-left.least a.s.now c.loop-left.at) ≡ c.next_report.result = sym c.next_report.ensures in
-    gathers_stops c.loop-left.invariant (omega arith) _ (next_refused _ _ (report-is ∙ c.in-Err.is)) empty
+pub returns-in_err-report : goal.returns-in_err-report
+returns-in_err-report c empty =
+    gathers_stops c.loop-k.invariant (omega arith) c.from_residual.result _ (search rules) (heard_refused as_word _ _ (sym c.in_err-report.ensures)) empty
+
+-- the report that was heard
+heard : (k : In_ok-report)
+    → Reported as_word (next_report (lent k.args.q k.args.events.now) k.loop-k.least k.args.s.now k.loop-k.at) k.in_ok-report.report
+heard k = heard_report as_word _ _ (sym k.in_ok-report.ensures)
 
 pub overflow_add-least : goal.overflow_add-least
 overflow_add-least c =
-    let report-is : let a = c.args in next_of (next_report (lent a.q a.events.now) c.loop-left.least a.s.now c.loop-left.at) ≡ c.next_report.result = sym c.next_report.ensures in
-    let heard : let a = c.args in Reported (next_report (lent a.q a.events.now) c.loop-left.least a.s.now c.loop-left.at) c.in-Ok.report.imported c.in-Ok.report.word c.in-Ok.report.next = next_report_lem _ _ (report-is ∙ c.in-Ok.is) in
-    omega (arith, ((next_rising _ _ _ _).told _ _ heard.is).narrow, heard.imports)
+    let told = heard (goal.at.overflow_add-least c).In_ok-report in
+    omega (arith, ((next_rising _ _ _ _).told _ _ told.is).narrow, told.imports)
 
-pub loop-left-preserved : goal.loop-left-preserved
-loop-left-preserved c =
-    let report-is : let a = c.args in next_of (next_report (lent a.q a.events.now) c.loop-left.least a.s.now c.loop-left.at) ≡ c.next_report.result = sym c.next_report.ensures in
-    let heard : let a = c.args in Reported (next_report (lent a.q a.events.now) c.loop-left.least a.s.now c.loop-left.at) c.in-Ok.report.imported c.in-Ok.report.word c.in-Ok.report.next = next_report_lem _ _ (report-is ∙ c.in-Ok.is) in
-    gathers_more c.loop-left.invariant (omega arith) heard c.keep.ensures (omega arith) (omega arith) (omega arith)
+pub loop-k-preserved : goal.loop-k-preserved
+loop-k-preserved c =
+    gathers_more c.loop-k.invariant (omega arith) (heard (goal.at.loop-k-preserved c).In_ok-report) c.keep.ensures refl (omega arith) (omega arith)
 
 pub returns : goal.returns
-returns c empty =
-    gathers_ends c.loop-left.invariant (omega arith) _ c.close.ensures empty
+returns c empty = gathers_ends c.loop-k.invariant (omega arith) _ c.close.ensures empty

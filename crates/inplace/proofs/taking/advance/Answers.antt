@@ -1,5 +1,4 @@
 -- `inplace::taking::advance` meets its contract: reports, time, first result, entries.
-use native.Mathlib.Omega.{arith}
 use Rattle.inplace.specs.Taking.{advanced_whole}
 use Rattle.inplace.proofs.taking.advance.Goals as goal
 

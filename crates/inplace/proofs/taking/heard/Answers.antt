@@ -1,19 +1,15 @@
 -- `inplace::taking::heard` meets its contract.
-use mathlib.Core.Path.{refl}
-use native.Mathlib.Omega.{arith}
+use Rattle.std.proofs.Common.{refl, rules, arith}
 use Rattle.inplace.specs.Taking.{listened, takes_refused, takes_late, takes_accepted}
 use Rattle.inplace.proofs.taking.heard.Goals as goal
 
-pub returns-then-heading-ge140737488355328 : goal.returns-then-heading-ge140737488355328
-returns-then-heading-ge140737488355328 c =
-    takes_late _ _ _ _ _ _ _ (omega arith) (listened c.hear-heading.ensures refl refl refl) c.in-Ok.is (omega arith)
+pub returns-in_err-time : goal.returns-in_err-time
+returns-in_err-time c =
+    takes_refused _ _ _ _ _ _ _ (omega arith) (listened c.hear.ensures refl refl refl) c.from_residual.result _ (search rules) c.in_err-time.was
 
-pub returns-in-Err : goal.returns-in-Err
-returns-in-Err c =
-    takes_refused _ _ _ _ _ _ _ (omega arith) (listened c.hear-heading.ensures refl refl refl) _ c.in-Err.is
+pub returns-then-late : goal.returns-then-late
+returns-then-late c = takes_late _ _ _ _ _ _ _ (omega arith) (listened c.hear.ensures refl refl refl) _ c.in_ok-time.was (omega arith)
 
-pub returns-else-heading-ge140737488355328 : goal.returns-else-heading-ge140737488355328
-returns-else-heading-ge140737488355328 c =
-    let long = c.requires.1 in
-    takes_accepted _ _ _ _ _ _ _ long (listened c.hear-heading.ensures refl refl refl) c.in-Ok.is refl (omega (arith, long))
-    c.advance.ensures
+pub returns : goal.returns
+returns c =
+    takes_accepted _ _ _ _ _ _ _ (omega arith) (listened c.hear.ensures refl refl refl) c.in_ok-time.was (omega arith) c.advance.ensures

@@ -1,7 +1,6 @@
 -- `inplace::walk::take_entry` meets its contract.
 use mathlib.Core.Path.{refl}
 use native.Mathlib.Omega.{arith}
-use lib.ListN.{length-set}
 use Rattle.inplace.specs.Turning.{advances_done, advances_plain}
 use Rattle.inplace.proofs.walk.take_entry.Goals as goal
 

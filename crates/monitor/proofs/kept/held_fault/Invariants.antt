@@ -1,8 +1,5 @@
--- `monitor::kept::held_fault` meets its contract. The loop's invariant: no number passed has a fault.
-use Rattle.std.proofs.Common.{Ok}
-use mathlib.Core.List.{List}
-use mathlib.Core.Path.{◌≡◌}
-use Prim.Native.Nat.{ℕ, ◌≤◌, ◌-◌}
+-- The loop's invariant: no number passed has a fault.
+use Rattle.std.proofs.Common.{◌≡◌, List, ℕ, Ok}
 use Rattle.refusals.specs.Answers.{Answer}
 use Rattle.refusals.specs.Numbering.{first_fault}
 use Rattle.table.specs.declared.VariableSlot.{VariableSlot}
@@ -13,8 +10,5 @@ use Rattle.monitor.proofs.kept.held_fault.Given as goal
 abbrev pub faultAt : List VariableSlot → ℕ → Answer
 faultAt held x = number_fault (number_at held x)
 
-abbrev pub invariant-loop-x : goal.invariant-loop-x
-invariant-loop-x l = (l.x ≤ 32) × (first_fault l.x (faultAt l.held) ≡ Ok tt)
-
-abbrev pub decreases-loop-x : goal.decreases-loop-x
-decreases-loop-x l = 32 - l.x
+abbrev pub invariant-loop-slot : goal.invariant-loop-slot
+invariant-loop-slot l = first_fault l.slot-index (faultAt l.held) ≡ Ok tt

@@ -1,10 +1,6 @@
--- `monitor::walk::advance` meets its contract. The loop's invariant: the walk has come to entry k.
-use Prim.Native.Nat.{◌-◌}
+-- The loop's invariant: the walk has come to entry k.
 use Rattle.monitor.specs.Walking.{Come}
 use Rattle.monitor.proofs.walk.advance.Given as goal
 
 abbrev pub invariant-loop-k : goal.invariant-loop-k
 invariant-loop-k l = Come l.m l.s l.results l.held l.cells l.k
-
-abbrev pub decreases-loop-k : goal.decreases-loop-k
-decreases-loop-k l = l.m.table.n - l.k

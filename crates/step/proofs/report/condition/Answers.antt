@@ -1,27 +1,16 @@
 -- `step::report::condition` meets its contract, by the field of its 2 bits.
-use Rattle.std.proofs.Common.{Some}
-use borrow.Author.Tests.{lt-ltb, le-ltb}
-use mathlib.Core.Path.{◌≡◌, sym, ◌∙◌}
-use native.Mathlib.Omega.{arith}
-use Rattle.bits.specs.Bits.{field_at}
+use Rattle.std.proofs.Common.{rules, sym, ◌∙◌, arith, lt-ltb, le-ltb}
 use Rattle.step.specs.Reader.{condition_report}
-use Rattle.step.proofs.report.condition.Goals.{In-Some}
 use Rattle.step.proofs.report.condition.Goals as goal
 
--- the field that was taken
-code_is : (k : In-Some) → let a = k.args in
-    field_at a.s.now a.at 2 ≡ Some k.in-Some.code
-code_is k = sym k.field_at.ensures ∙ k.in-Some.is
-
-pub returns-in_default : goal.returns-in_default
+pub returns-in_err-code : goal.returns-in_err-code
 unfolding condition_report
-returns-in_default c = rw (sym c.field_at.ensures ∙ c.in_default.is)
+returns-in_err-code g c = rw (sym c.field_at.ensures ∙ c.in_err-code.ensures.ok_part) (search rules)
 
 pub returns-then-unknown : goal.returns-then-unknown
 unfolding condition_report
-returns-then-unknown c = rw (code_is (goal.at.returns-then-unknown c).In-Some, le-ltb c.in-Some.code 3 (omega arith))
+returns-then-unknown g c = rw (sym c.field_at.ensures ∙ c.in_ok-code.ensures.ok_part, le-ltb c.in_ok-code.code 3 (omega arith))
 
 pub returns : goal.returns
 unfolding condition_report
-returns c =
-    rw (code_is (goal.at.returns c).In-Some, lt-ltb c.in-Some.code 3 (omega arith), c.truth_of.ensures)
+returns g c = rw (sym c.field_at.ensures ∙ c.in_ok-code.ensures.ok_part, lt-ltb c.in_ok-code.code 3 (omega arith), c.condition.ensures)

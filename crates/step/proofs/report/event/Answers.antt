@@ -1,29 +1,29 @@
 -- `step::report::event` meets its contract, by the field of its bit and the field of its value.
-use Rattle.std.proofs.Common.{sym, ◌∙◌, ap, arith, ◌+◌, ℤ, w64}
-use borrow.Author.Tests.{eq-eqb, ne_eqb}
-use mir.ValLaws.{to_z-of_z}
-use Rattle.values.specs.declared.Number.{Number}
-use Rattle.step.specs.declared.Told.{Told}
-use Rattle.std.proofs.Common.{Ok}
+use Rattle.std.proofs.Common.{rules, sym, ◌∙◌, arith, eq-eqb, ne_eqb}
+use Rattle.bits.specs.Fields.{there_lt}
 use Rattle.step.specs.Reader.{event_report}
 use Rattle.step.proofs.report.event.Goals as goal
 
-pub returns-in_default : goal.returns-in_default
+pub returns-in_err-bit : goal.returns-in_err-bit
 unfolding event_report
-returns-in_default c = rw (sym c.field_at.ensures ∙ c.in_default.is)
+returns-in_err-bit g c = rw (sym c.field_at.ensures ∙ c.in_err-bit.ensures.ok_part) (search rules)
 
 pub returns-then-bit-ne1 : goal.returns-then-bit-ne1
 unfolding event_report
-returns-then-bit-ne1 c = rw (sym c.field_at.ensures ∙ c.in-Some.is, ne_eqb c.in-Some.bit 1 (λ e. omega arith))
+returns-then-bit-ne1 g c =
+    rw (sym c.field_at.ensures ∙ c.in_ok-bit.ensures.ok_part, ne_eqb c.in_ok-bit.bit 1 (λ e. omega arith), c.event.ensures)
 
-pub returns-in_default-field_at : goal.returns-in_default-field_at
+pub returns-in_err-value : goal.returns-in_err-value
 unfolding event_report
-returns-in_default-field_at c =
-    rw (sym c.field_at.ensures ∙ c.in-Some.is, eq-eqb c.in-Some.bit 1 (omega arith), sym c.field_at-2.ensures ∙ c.in_default-field_at.is)
+returns-in_err-value g c =
+    rw (sym c.field_at.ensures ∙ c.in_ok-bit.ensures.ok_part, eq-eqb c.in_ok-bit.bit 1 (omega arith), sym c.field_at-2.ensures ∙ c.in_err-value.ensures.ok_part)
+    (search rules)
+
+-- the value that was taken has 48 bits
+pub valued-requires : goal.valued-requires
+valued-requires g c = omega (arith, there_lt _ _ 48 _ (sym c.field_at-2.ensures ∙ c.in_ok-value.ensures.ok_part))
 
 pub returns : goal.returns
 unfolding event_report
-returns c =
-    let a = c.args in
-    rw (sym c.field_at.ensures ∙ c.in-Some.is, eq-eqb c.in-Some.bit 1 (omega arith), sym c.field_at-2.ensures ∙ c.in-Some-field_at.is)
-    (ap (λ (z : ℤ). Ok (record { imported = a.i; told = Told.Event (Number.Whole z); next = a.at + 1 + 48 })) (to_z-of_z w64 _ (record { sfits = c.signed.type_inv }) ∙ c.signed.ensures))
+returns g c =
+    rw (sym c.field_at.ensures ∙ c.in_ok-bit.ensures.ok_part, eq-eqb c.in_ok-bit.bit 1 (omega arith), sym c.field_at-2.ensures ∙ c.in_ok-value.ensures.ok_part, c.valued.ensures)

@@ -1,0 +1,50 @@
+-- `step::reading::accepted` meets its contract: the time and the report count are fields, and the reports decide the rest.
+use Rattle.std.proofs.Common.{◌≡◌, Some, ap, sym, ◌∙◌, rules, arith}
+use Rattle.std.proofs.lemmas.Bool.{lt-leb}
+use Rattle.bits.specs.Bits.{field_at}
+use Rattle.bits.specs.Fields.{there_lt}
+use Rattle.step.specs.Reader.{time_first}
+use Rattle.step.specs.Taking.{taken_of}
+use Rattle.step.specs.Stages.{taken_refused, time_cut, count_cut, on_count}
+use Rattle.step.proofs.reading.accepted.Goals.{In_ok-time, In_ok-count}
+use Rattle.step.proofs.reading.accepted.Goals as goal
+
+-- the time that was taken
+time-is : (k : In_ok-time) → field_at k.args.s.now 0 47 ≡ Some k.in_ok-time.time
+time-is k = sym k.field_at.ensures ∙ k.in_ok-time.ensures.ok_part
+
+-- the report count that was taken
+count-is : (k : In_ok-count) → field_at k.args.s.now 47 6 ≡ Some k.in_ok-count.count
+count-is k = sym k.field_at-2.ensures ∙ k.in_ok-count.ensures.ok_part
+
+pub returns-in_err-time : goal.returns-in_err-time
+returns-in_err-time c =
+    let a = c.args in
+    taken_refused a.reported c.from_residual.result _ (search rules) (time_cut a.t a.earliest a.s.now (sym c.field_at.ensures ∙ c.in_err-time.ensures.ok_part))
+
+pub returns-then-time-earliest : goal.returns-then-time-earliest
+returns-then-time-earliest c =
+    let a = c.args in
+    let time = c.in_ok-time.time in
+    sym
+    (ap (taken_of a.reported)
+    (time_first a.t a.earliest time a.s.now (time-is (goal.at.returns-then-time-earliest c).In_ok-time) (lt-leb a.earliest time (omega arith))))
+
+pub returns-in_err-count : goal.returns-in_err-count
+returns-in_err-count c =
+    let a = c.args in
+    taken_refused a.reported c.from_residual-in_err-count.result _ (search rules)
+    (count_cut a.t a.earliest a.s.now c.in_ok-time.time (time-is (goal.at.returns-in_err-count c).In_ok-time) (omega arith)
+    (sym c.field_at-2.ensures ∙ c.in_err-count.ensures.ok_part))
+
+pub reports-requires : goal.reports-requires
+reports-requires c = omega (arith, there_lt _ 47 6 _ (count-is c))
+
+pub returns : goal.returns
+returns c =
+    let a = c.args in
+    c.reports.ensures
+    ∙ sym
+    (ap (taken_of a.reported)
+    (on_count a.t a.earliest a.s.now c.in_ok-time.time (time-is (goal.at.returns c).In_ok-time) (omega arith) c.in_ok-count.count
+    (count-is (goal.at.returns c).In_ok-count)))
