@@ -7,7 +7,7 @@ ghost use Rattle.table.specs.Tables.{Shaped, empty_table};
 use values::Number;
 
 // The sort of an entry: condition, event, number, or none.
-#[derive(Clone, Copy)]
+#[derive(Clone, Copy, Debug, PartialEq, Eq)]
 pub enum Sort {
     None,
     Condition,
@@ -16,7 +16,7 @@ pub enum Sort {
 }
 
 // "An entry is one of twenty-five kinds, each with its own operands."
-#[derive(Clone, Copy)]
+#[derive(Clone, Copy, Debug, PartialEq, Eq)]
 pub enum Entry {
     // 0 import, of a condition
     ImportedCondition(u16),
@@ -71,19 +71,19 @@ pub enum Entry {
 }
 
 // One entry slot of a table.
-#[derive(Clone, Copy)]
+#[derive(Clone, Copy, Debug, PartialEq, Eq)]
 pub struct EntrySlot {
     pub entry: Entry,
 }
 
 // One variable slot: the number that it starts with, or holds.
-#[derive(Clone, Copy)]
+#[derive(Clone, Copy, Debug, PartialEq, Eq)]
 pub struct VariableSlot {
     pub number: Number,
 }
 
 // A script's rules: n entries, q imports (true: an event) and v variables, each in the first of its slots.
-#[derive(Clone, Copy)]
+#[derive(Clone, Copy, Debug, PartialEq, Eq)]
 pub struct Table {
     pub n: usize,
     pub q: usize,

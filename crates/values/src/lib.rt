@@ -6,7 +6,7 @@ mod outcomes;
 mod truths;
 
 // "A condition is true, false or undefined."
-#[derive(Clone, Copy)]
+#[derive(Clone, Copy, Debug, PartialEq, Eq)]
 pub enum Truth {
     Undefined,
     False,
@@ -14,14 +14,14 @@ pub enum Truth {
 }
 
 // "A number is undefined or a whole number from -2^47 to 2^47-1."
-#[derive(Clone, Copy)]
+#[derive(Clone, Copy, Debug, PartialEq, Eq)]
 pub enum Number {
     Undefined,
     Whole(i64),
 }
 
 // The result of one entry at one step; specs/Outcomes.antt has the document's word for each.
-#[derive(Clone, Copy)]
+#[derive(Clone, Copy, Debug, PartialEq, Eq)]
 pub enum Outcome {
     Nothing,
     Condition(Truth),
@@ -33,7 +33,7 @@ pub enum Outcome {
 }
 
 // "A step's result holds one result per entry slot."
-#[derive(Clone, Copy)]
+#[derive(Clone, Copy, Debug, PartialEq, Eq)]
 pub struct Slot {
     pub outcome: Outcome,
 }
