@@ -1,11 +1,8 @@
--- By the slots: 128 of them hold all the labels.
-use mathlib.Core.Path.{◌∙◌}
+-- `labels::before` meets its contract: the slots before k, or all of them, hold the labels.
+use borrow.Author.Rules.{rules}
 use native.Mathlib.Omega.{arith}
-use Rattle.labels.specs.Counting.{labels_all}
+use Rattle.labels.specs.Counting.{labels_counted}
 use Rattle.labels.proofs.counting.before.Goals as goal
 
-pub returns-else-within : goal.returns-else-within
-returns-else-within c =
-    let shape = c.shaped.ensures in
-    let a = c.args in
-    c.counted-else-within.ensures ∙ labels_all a.t 128 a.k (omega (arith, shape.entries)) (omega arith)
+pub returns : goal.returns
+returns c = rw (← labels_counted c.args.t c.args.k (omega arith)) (search rules)
