@@ -1,9 +1,8 @@
 -- Laws of one label: what each fault leads to, and where the text and the next label stand.
-use Rattle.std.specs.Prelude.{Bool, true, false, ◌&&◌, List, [], ◌∷◌, ◌≡◌, refl, ℕ, ◌+◌, ◌*◌, ◌/◌, ◌<◌, ◌≤◌, leb, get_or, take, drop, Ok, Err, Some, None, Option, Result}
+use Rattle.std.specs.Prelude.{Bool, true, false, ◌&&◌, List, [], ◌∷◌, ◌≡◌, refl, ℕ, ◌+◌, ◌*◌, ◌/◌, ◌<◌, ◌≤◌, leb, take, drop, Ok, Err, Some, None, Option, Result}
 use Rattle.std.specs.List.{list_all}
-use Rattle.std.proofs.Math.Bool.{and-false}
 use Rattle.std.proofs.Math.Logic.{by_cases}
-use Rattle.std.proofs.Common.{◌∙◌, ap, add-one, le-leb, drop-cons}
+use Rattle.std.proofs.Common.{◌∙◌, ap, le-leb}
 use Rattle.std.proofs.Math.Decide.{dec_le}
 use native.Mathlib.Omega.{arith}
 use Rattle.std.proofs.lemmas.Bool.{lt-leb}
@@ -26,6 +25,11 @@ unfolding printable
 printable_lem [] = refl
 printable_lem (b ∷ bs) = ap (λ (rest : Bool). leb 0x20 b && leb b 0x7E && rest) (printable_lem bs)
 
+-- the length isn't there
+label_cut : (s : List ℕ) (at : ℕ) → field_at s at 8 ≡ None → label s at ≡ refused Refusal.Cut
+unfolding label
+label_cut s at e = rw e
+
 -- a length that is there is one of the bytes
 pub length_within : (s : List ℕ) (from size : ℕ) → field_at s (8 * from) 8 ≡ Some size → from < length s
 length_within s from size e = omega (arith, there_ends s (8 * from) 8 size e)
@@ -43,6 +47,11 @@ label_text_lem s from size e h =
     rw (e, le-leb size limits.label h) (ap (λ (at : ℕ). text size s at) (omega arith))
 
 module _ (s : List ℕ) (first size : ℕ) where
+  -- the text isn't wholly there
+  text_cut : length s < first + size → text size s (8 * first) ≡ refused Refusal.Cut
+  unfolding text
+  text_cut h = rw (lt-leb (8 * first + 8 * size) (8 * length s) (omega arith))
+
   -- "a byte outside 0x20 to 0x7E"
   pub text_fault : first + size ≤ length s → printable (take size (drop first s)) ≡ false → text size s (8 * first) ≡ refused Refusal.Label
   unfolding text
