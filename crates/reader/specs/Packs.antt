@@ -38,6 +38,9 @@ packed_whole s = refl
 pub stage_refused : {stage : Result Stage Refusal} {m : Got Table} {r : Refusal} → reached stage ≡ m → stage ≡ Err r → m ≡ refused r
 stage_refused e is = sym e ∙ ap reached is
 
+pub stage_stops : {stage : Result Stage Refusal} {m : Got Table} {r : Refusal} (f : Table → ℕ → Got Table) → reached stage ≡ m → stage ≡ Err r → onward m f ≡ refused r
+stage_stops f e is = ap (λ (x : Got Table). onward x f) (stage_refused e is)
+
 pub stage_goes : {result : Result Stage Refusal} {m : Got Table} {stage : Stage} → reached result ≡ m → result ≡ Ok stage → m ≡ got stage.table stage.at
 stage_goes e is = sym e ∙ ap reached is
 

@@ -38,13 +38,10 @@ fn put_entry(dst: &mut [u8], at: usize, e: Entry) -> usize
     ensures { Puts dst.old at (entry_parts e) dst.new result }
 {
     let apart = kinds::apart_of(e);
-    let first = apart.first;
-    let second = apart.second;
-    let third = apart.third;
     let one = put_field(dst, at, 5, apart.kind as u64);
-    let two = put_operand(dst, one, first);
-    let three = put_operand(dst, two, second);
-    put_operand(dst, three, third)
+    let two = put_operand(dst, one, apart.first);
+    let three = put_operand(dst, two, apart.second);
+    put_operand(dst, three, apart.third)
 }
 
 // "Format number ... Entry count n ... Import count q ... Variable count v ... Four zero bits."
@@ -64,10 +61,8 @@ fn put_imports(dst: &mut [u8], from: usize, t: Table) -> usize
     ensures { Puts dst.old from (imports_parts t t.q) dst.new result }
 {
     let mut at = from;
-    let mut i: usize = 0;
-    while i < t.q {
+    for i in 0..t.q {
         at = put_field(dst, at, 1, t.events[i] as u64);
-        i += 1;
     }
     at
 }
@@ -95,12 +90,8 @@ fn put_variables(dst: &mut [u8], from: usize, t: Table) -> usize
     ensures { Puts dst.old from (variables_parts t t.v) dst.new result }
 {
     let mut at = from;
-    let mut x: usize = 0;
-    while x < t.v {
-        let slot = t.variables[x];
-        let y = slot.number;
-        at = put_number(dst, at, y);
-        x += 1;
+    for x in 0..t.v {
+        at = put_number(dst, at, t.variables[x].number);
     }
     at
 }
@@ -111,12 +102,8 @@ fn put_entries(dst: &mut [u8], from: usize, t: Table) -> usize
     ensures { Puts dst.old from (entries_parts t t.n) dst.new result }
 {
     let mut at = from;
-    let mut k: usize = 0;
-    while k < t.n {
-        let slot = t.entries[k];
-        let e = slot.entry;
-        at = put_entry(dst, at, e);
-        k += 1;
+    for k in 0..t.n {
+        at = put_entry(dst, at, t.entries[k].entry);
     }
     at
 }

@@ -11,10 +11,7 @@ fn entry_width(e: Entry) -> usize
     ensures { result ≡ width_of_all (entry_parts e) }
 {
     let apart = kinds::apart_of(e);
-    let first = apart.first;
-    let second = apart.second;
-    let third = apart.third;
-    5 + first.width() + second.width() + third.width()
+    5 + apart.first.width() + apart.second.width() + apart.third.width()
 }
 
 // How many bytes the table takes: the header, a bit for each import, 49 bits for each variable, the entries, and zero bits up to a whole byte.
@@ -23,12 +20,8 @@ pub(crate) fn packed_size(t: Table) -> usize
     ensures { result ≡ (width_of_all (table_parts t) + 7) / 8 }
 {
     let mut width = 32 + t.q + t.v * 49;
-    let mut k: usize = 0;
-    while k < t.n {
-        let slot = t.entries[k];
-        let e = slot.entry;
-        width += entry_width(e);
-        k += 1;
+    for k in 0..t.n {
+        width += entry_width(t.entries[k].entry);
     }
     (width + 7) / 8
 }

@@ -1,4 +1,4 @@
--- `writer::packing::put_imports` meets its contract. The loop's invariant: the bits of the imports passed are put; the measure is how many are left.
+-- `writer::packing::put_imports` meets its contract. The loop's invariant: the bits of the imports passed are put.
 use mathlib.Core.Bool.{Bool, true, false, cond}
 use mathlib.Core.Path.{◌≡◌, refl}
 use native.Mathlib.Omega.{arith}
@@ -15,12 +15,12 @@ bit-of true = refl
 bit-of false = refl
 
 pub loop-i-init : goal.loop-i-init
-loop-i-init c = let t = c.args.t in (omega arith, puts_start (import_parts t))
+loop-i-init c = let t = c.args.t in puts_start (import_parts t)
 
 pub put_field-at-requires : goal.put_field-at-requires
 put_field-at-requires c =
     let loop = c.loop-i in
-    omega (arith, loop.invariant.1.ends, imports_width c.args.t loop.i)
+    omega (arith, loop.invariant.ends, imports_width c.args.t loop.i)
 
 pub loop-i-preserved : goal.loop-i-preserved
 unfolding import_parts is_event
@@ -28,4 +28,4 @@ loop-i-preserved c =
     let t = c.args.t in
     let loop = c.loop-i in
     let put = c.put_field-at.ensures in
-    (omega arith, puts_joined loop.i (import_parts t) loop.invariant.1 (rw (← bit-of (is_event t loop.i)) put))
+    puts_joined loop.i (import_parts t) loop.invariant (rw (← bit-of (is_event t loop.i)) put)
