@@ -4,121 +4,65 @@
 ghost use Rattle.std.specs.Prelude.{◌≡◌, ◌*◌, ◌≤◌, length};
 ghost use Rattle.kinds.specs.Apart.{wide_of};
 ghost use Rattle.entries.specs.Entering.{operand_by, entered};
-ghost use Rattle.entries.specs.Takings.{got_of, operand_after};
+ghost use Rattle.entries.specs.Takings.{got_of};
 
 use kinds::Operand;
 use refusals::Refusal;
+use sound::Known;
 use table::Entry;
 
-// An operand's number and the bit after it, if it is accepted.
+// The number of an operand that was accepted, and the bit after it.
 #[derive(Clone, Copy)]
 struct Taking {
-    answer: Result<(), Refusal>,
     number: u64,
     next: usize,
 }
 
-// The operand at a bit, of `w` bits, judged; a field of no bits is there up to the end of the bytes.
-fn judged(
-    s: &[u8],
-    at: usize,
-    w: usize,
-    o: Operand,
-    k: usize,
-    q: usize,
-    v: usize,
-    sorts: &[u8],
-    events: &[bool],
-) -> Taking
-    requires { (length s.now ≤ 4096) × ((w ≡ wide_of o) × (w ≡ 0 → at ≤ 8 * length s.now)) }
-    ensures { got_of result ≡ operand_by sorts.now events.now q v k o s.now at }
-{
-    let Some(n) = bits::field_at(s, at, w) else {
-        return Taking {
-            answer: Err(Refusal::Cut),
-            number: 0,
-            next: at,
-        };
-    };
-    Taking {
-        answer: sound::judge(o.holding(n), k, q, v, sorts, events),
-        number: n,
-        next: at + w,
-    }
-}
-
-// The operand after what was taken before, judged; where there is no operand nothing is read, and a refusal is handed on.
-fn operand(
-    s: &[u8],
-    before: Taking,
-    o: Operand,
-    k: usize,
-    q: usize,
-    v: usize,
-    sorts: &[u8],
-    events: &[bool],
-) -> Taking
+// The operand at a bit, judged; where there is no operand nothing is read.
+#[tactic(auto, unfolding(crate::specs::Entering::operand_by))]
+fn operand(s: &[u8], at: usize, o: Operand, known: Known) -> Result<Taking, Refusal>
     requires { length s.now ≤ 4096 }
-    ensures { got_of result ≡ operand_after sorts.now events.now q v k o s.now before }
+    ensures { got_of result ≡ operand_by known.entry.sorts.now known.entry.events.now known.entry.q known.entry.v known.entry.k o s.now at }
 {
-    let answer = before.answer;
-    let Ok(()) = answer else {
-        return before;
-    };
     let w = o.width();
     if w == 0 {
-        return Taking {
-            answer: Ok(()),
+        return Ok(Taking {
             number: 0,
-            next: before.next,
-        };
+            next: at,
+        });
     }
-    judged(s, before.next, w, o, k, q, v, sorts, events)
+    let number = bits::field_at(s, at, w).ok_or(Refusal::Cut)?;
+    known.judge(o.holding(number))?;
+    Ok(Taking {
+        number,
+        next: at + w,
+    })
 }
 
-// The entry at a bit, read by what is lent of the table so far: the sorts of its entries before `k`, which imports are events, its counts.
-pub fn read(
-    s: &[u8],
-    at: usize,
-    k: usize,
-    q: usize,
-    v: usize,
-    sorts: &[u8],
-    events: &[bool],
-) -> Result<(Entry, usize), Refusal>
-    ensures { result ≡ entered sorts.now events.now q v k s.now at }
+// The entry at a bit, read by what is known of the table so far.
+#[tactic(auto, unfolding(crate::specs::Entering::operands_by, crate::specs::Entering::entry_by, crate::specs::Entering::entered))]
+pub fn read(s: &[u8], at: usize, known: Known) -> Result<(Entry, usize), Refusal>
+    ensures { result ≡ entered known.entry.sorts.now known.entry.events.now known.entry.q known.entry.v known.entry.k s.now at }
 {
     let too_long = 4096 < s.len();
     if too_long {
         return Err(Refusal::TooLong);
     }
-    let Some(kind) = bits::field_at(s, at, 5) else {
-        return Err(Refusal::Cut);
-    };
+    let kind = bits::field_at(s, at, 5).ok_or(Refusal::Cut)?;
     let unknown = 25 <= kind;
     if unknown {
         return Err(Refusal::Kind);
     }
     let places = kinds::apart_of(kinds::made(kind as usize, 0, 0, 0, 0));
-    let first = places.first;
-    let second = places.second;
-    let third = places.third;
-    let start = at + 5;
-    let a = judged(s, start, first.width(), first, k, q, v, sorts, events);
-    let b = operand(s, a, second, k, q, v, sorts, events);
-    let c = operand(s, b, third, k, q, v, sorts, events);
-    let answer = c.answer;
-    match answer {
-        Ok(()) => Ok((
-            kinds::made(
-                kind as usize,
-                (a.number % 65536) as u16,
-                (b.number % 65536) as u16,
-                (c.number % 65536) as u16,
-                bits::signed(a.number),
-            ),
-            c.next,
-        )),
-        Err(r) => Err(r),
-    }
+    let a = operand(s, at + 5, places.first, known)?;
+    let b = operand(s, a.next, places.second, known)?;
+    let c = operand(s, b.next, places.third, known)?;
+    let entry = kinds::made(
+        kind as usize,
+        (a.number % 65536) as u16,
+        (b.number % 65536) as u16,
+        (c.number % 65536) as u16,
+        bits::signed(a.number),
+    );
+    Ok((entry, c.next))
 }

@@ -26,20 +26,20 @@ pub struct Apart {
     pub third: Operand,
 }
 
-// The sort of a kind, as a number: conditions come first, then events, then numbers.
-pub fn sort_of_kind(kind: usize) -> u8
+// The sort of a kind: conditions come first, then events, then numbers.
+pub fn sort_of_kind(kind: usize) -> Sort
     ensures { result ≡ sort_of_kind kind }
 {
     if kind < 9 {
-        return 1;
+        return Sort::Condition;
     }
     if kind < 15 {
-        return 2;
+        return Sort::Event;
     }
     if kind < 22 {
-        return 3;
+        return Sort::Number;
     }
-    0
+    Sort::None
 }
 
 impl Operand {

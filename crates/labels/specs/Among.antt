@@ -1,5 +1,5 @@
 -- The labels up to the end of the bytes: whether they are as they should be, and where a wanted one stands.
-use Rattle.std.specs.Prelude.{Bool, cond, List, ℕ, ltb, Ok}
+use Rattle.std.specs.Prelude.{Bool, cond, List, ℕ, ltb, Ok, Err, Result}
 use Rattle.refusals.specs.declared.Refusal.{Refusal}
 use Rattle.bits.specs.Reading.{Got, got, refused, Reading, ◌>>=◌, ended}
 use Rattle.script.specs.declared.Span.{Span}
@@ -20,6 +20,11 @@ span_of (refused r) = nowhere
 abbrev pub among_reply : Bool → Got Span → Got ℕ → Label
 among_reply among one (got count end) = record { answer = Ok tt; span = cond among (span_of one) nowhere }
 among_reply among one (refused r) = no_label r
+
+-- the answer, from what was found of the wanted one
+abbrev pub answer_of : Result Span Refusal → Label
+answer_of (Ok span) = record { answer = Ok tt; span = span }
+answer_of (Err r) = no_label r
 
 -- "For each alarm and property entry, in order: [a label]. Nothing follows."
 unfoldable pub labels_to_end : ℕ → Reading ℕ

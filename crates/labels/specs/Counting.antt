@@ -1,14 +1,14 @@
 -- How the count of labels goes on from one entry to the next, and that it stops at the slots.
-use Rattle.std.specs.Prelude.{Bool, cond, [], ◌∷◌, ◌≡◌, refl, ℕ, zero, suc, ◌+◌, ◌-◌, ◌≤◌, min, length, get_or, take}
-use Rattle.std.specs.List.{count_by}
-use Rattle.std.proofs.lemmas.List.Sums.{sum_by-append}
-use Rattle.std.proofs.Math.Seq.{take-suc}
-use Rattle.std.proofs.Math.Decide.{dec_le}
+use Rattle.std.specs.Prelude.{Bool, true, false, cond, List, ◌≡◌, refl, ℕ, zero, suc, ◌+◌, ◌-◌, ◌<◌, ◌≤◌, length, get_or, take, min, count_by}
 use Rattle.std.proofs.Common.{sym, ◌∙◌, ap, add-zero, add-suc, add-one, arith}
+use Rattle.std.proofs.Math.Logic.{by_cases}
+use Rattle.std.proofs.Math.Decide.{dec_le}
+use Rattle.std.proofs.lemmas.List.Sums.{count_by_more_yes, count_by_more_no}
 use Rattle.std.proofs.Math.ListN.{get_or-eq_default}
 use Rattle.table.specs.declared.Entry.{Entry}
 use Rattle.table.specs.declared.EntrySlot.{EntrySlot}
 use Rattle.table.specs.declared.Table.{Table}
+use Rattle.table.specs.Limits.{limits}
 use Rattle.table.specs.Kinds.{kind_of, labelled}
 use Rattle.table.specs.Tables.{entry_at, labels_before}
 
@@ -29,29 +29,34 @@ unfolding labels_before labelled kind_of
 labels_past t m zero h = ap (labels_before t) (add-zero m)
 labels_past t m (suc more) h = rw (add-suc m more, past_slots t (m + more) (omega arith), labels_past t m more h) (add-zero (labels_before t m))
 
-pub labels_all : (t : Table) (m k : ℕ) → length t.entries ≤ m → m ≤ k → labels_before t m ≡ labels_before t k
+labels_all : (t : Table) (m k : ℕ) → length t.entries ≤ m → m ≤ k → labels_before t m ≡ labels_before t k
 labels_all t m k h late = sym (labels_past t m (k - m) h) ∙ ap (labels_before t) {x = m + (k - m)} {y = k} (omega arith)
 
--- whether the entry in a slot has a label
-abbrev pub has_label : EntrySlot → Bool
-has_label slot = labelled slot.entry
+-- an entry that has a label, by its slot
+abbrev pub named : EntrySlot → Bool
+named slot = labelled slot.entry
 
--- the first n slots, counted
-counted : (t : Table) (n : ℕ) → n ≤ length t.entries → count_by has_label (take n t.entries) ≡ labels_before t n
-unfolding labels_before entry_at
-counted t zero h = refl
-counted t (suc n) h =
-    let none : EntrySlot = record { entry = Entry.ImportedCondition 0 } in
-    let one : EntrySlot → ℕ = λ slot. cond (has_label slot) 1 0 in
-    ap (count_by has_label) (take-suc t.entries n none (omega arith))
-    ∙ sum_by-append one (take n t.entries) (get_or t.entries n none ∷ [])
-    ∙ omega (arith, counted t n (omega arith))
+-- one slot more
+count_more : (slots : List EntrySlot) (k : ℕ) (d : EntrySlot) → k < length slots → count_by named (take (k + 1) slots) ≡ count_by named (take k slots) + cond (named (get_or slots k d)) 1 0
+count_more slots k d room = by (named (get_or slots k d)) refl
+  where
+    by : (b : Bool) → named (get_or slots k d) ≡ b → count_by named (take (k + 1) slots) ≡ count_by named (take k slots) + cond (named (get_or slots k d)) 1 0
+    by true e = rw e (count_by_more_yes named slots k d room e)
+    by false e = rw (e, add-zero) (count_by_more_no named slots k d room e)
 
--- as many of them as there are, and no more than k
-pub labels_taken : (t : Table) (n k : ℕ) → n ≡ min k (length t.entries) → count_by has_label (take n t.entries) ≡ labels_before t k
-labels_taken t n k is =
-    counted t n (omega arith)
-    ∙ elim (dec_le k n) [
-      | yes e ↦ ap (labels_before t) {x = n} {y = k} (omega arith)
-      | no e ↦ labels_all t n k (omega arith) (omega arith)
-    ]
+module _ (t : Table) where
+  -- the slots before k hold their labels
+  labels_below : (k : ℕ) → k ≤ length t.entries → count_by named (take k t.entries) ≡ labels_before t k
+  unfolding labels_before entry_at
+  labels_below zero room = refl
+  labels_below (suc k) room =
+      ap (λ (n : ℕ). count_by named (take n t.entries)) (sym (add-one k))
+      ∙ count_more t.entries k (record { entry = Entry.ImportedCondition 0 }) (omega arith)
+      ∙ ap (λ (n : ℕ). n + cond (labelled (entry_at t k)) 1 0) (labels_below k (omega arith))
+
+  -- and where k is past the slots, all of them do
+  pub labels_counted : (k : ℕ) → length t.entries ≡ limits.slots → count_by named (take (min k limits.slots) t.entries) ≡ labels_before t k
+  labels_counted k slots =
+      by_cases (dec_le k limits.slots)
+      (λ few. let some : min k limits.slots ≡ k = omega arith in rw some (labels_below k (omega arith)))
+      (λ many. let all : min k limits.slots ≡ limits.slots = omega arith in rw all (labels_below limits.slots (omega arith) ∙ labels_all t limits.slots k (omega arith) (omega arith)))

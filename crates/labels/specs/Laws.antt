@@ -1,8 +1,8 @@
 -- Laws of one label: what each fault leads to, and where the text and the next label stand.
-use Rattle.std.specs.Prelude.{Bool, true, false, List, ◌≡◌, refl, ℕ, ◌+◌, ◌*◌, ◌/◌, ◌<◌, ◌≤◌, leb, get_or, take, drop, Ok, Err, Some, None, Option, Result}
-use Rattle.std.proofs.Math.Bool.{and-false}
+use Rattle.std.specs.Prelude.{Bool, true, false, ◌&&◌, List, [], ◌∷◌, ◌≡◌, refl, ℕ, ◌+◌, ◌*◌, ◌/◌, ◌<◌, ◌≤◌, leb, take, drop, Ok, Err, Some, None, Option, Result}
+use Rattle.std.specs.List.{list_all}
 use Rattle.std.proofs.Math.Logic.{by_cases}
-use Rattle.std.proofs.Common.{◌∙◌, ap, add-one, le-leb, drop-cons}
+use Rattle.std.proofs.Common.{◌∙◌, ap, le-leb}
 use Rattle.std.proofs.Math.Decide.{dec_le}
 use native.Mathlib.Omega.{arith}
 use Rattle.std.proofs.lemmas.Bool.{lt-leb}
@@ -15,23 +15,18 @@ use Rattle.table.specs.Limits.{limits}
 use Rattle.script.specs.declared.Span.{Span}
 use Rattle.script.specs.Labels.{printable, text, label}
 
--- a byte of a text, from 0x20 to 0x7E: what follows decides
-pub printable_next : (s : List ℕ) (i : ℕ) → i < length s → 0x20 ≤ get_or s i 0 → get_or s i 0 ≤ 0x7E → printable (drop i s) ≡ printable (drop (i + 1) s)
-unfolding printable
-printable_next s i h low high = rw (add-one i, drop-cons s i 0 h, le-leb 0x20 (get_or s i 0) low, le-leb (get_or s i 0) 0x7E high)
+-- a byte of a text
+abbrev pub is_printable : ℕ → Bool
+is_printable b = leb 0x20 b && leb b 0x7E
 
--- a byte below 0x20
-pub printable_low : (s : List ℕ) (i : ℕ) → i < length s → get_or s i 0 < 0x20 → printable (drop i s) ≡ false
+-- a text's bytes are tested one by one
+pub printable_lem : (s : List ℕ) → printable s ≡ list_all is_printable s
 unfolding printable
-printable_low s i h low = rw (drop-cons s i 0 h, lt-leb 0x20 (get_or s i 0) low)
-
--- a byte above 0x7E
-pub printable_high : (s : List ℕ) (i : ℕ) → i < length s → 0x7E < get_or s i 0 → printable (drop i s) ≡ false
-unfolding printable
-printable_high s i h high = rw (drop-cons s i 0 h, lt-leb (get_or s i 0) 0x7E high, and-false (leb 0x20 (get_or s i 0)))
+printable_lem [] = refl
+printable_lem (b ∷ bs) = ap (λ (rest : Bool). leb 0x20 b && leb b 0x7E && rest) (printable_lem bs)
 
 -- the length isn't there
-pub label_cut : (s : List ℕ) (at : ℕ) → field_at s at 8 ≡ None → label s at ≡ refused Refusal.Cut
+label_cut : (s : List ℕ) (at : ℕ) → field_at s at 8 ≡ None → label s at ≡ refused Refusal.Cut
 unfolding label
 label_cut s at e = rw e
 
@@ -53,7 +48,7 @@ label_text_lem s from size e h =
 
 module _ (s : List ℕ) (first size : ℕ) where
   -- the text isn't wholly there
-  pub text_cut : length s < first + size → text size s (8 * first) ≡ refused Refusal.Cut
+  text_cut : length s < first + size → text size s (8 * first) ≡ refused Refusal.Cut
   unfolding text
   text_cut h = rw (lt-leb (8 * first + 8 * size) (8 * length s) (omega arith))
 

@@ -4,41 +4,35 @@
 mod counting;
 
 ghost use Rattle.std.specs.Prelude.{◌≡◌, ◌*◌};
-ghost use Rattle.script.specs.Labels.{printable, label};
-ghost use Rattle.script.specs.Reader.{no_label};
-ghost use Rattle.labels.specs.Among.{label_among};
-ghost use Rattle.labels.specs.Laws.{found_in};
+ghost use Rattle.std.specs.List.{list_all};
+ghost use Rattle.script.specs.Labels.{label};
+ghost use Rattle.labels.specs.Among.{answer_of, label_among};
+ghost use Rattle.labels.specs.Laws.{found_in, is_printable};
 
 pub use counting::{before, labelled};
 use refusals::Refusal;
 use script::{Label, Span};
 
-// Every byte of a text is one from 0x20 to 0x7E.
-fn all_printable(text: &[u8]) -> bool
-    ensures { result ≡ printable text.now }
+// "from 0x20 to 0x7E"
+fn is_printable(byte: u8) -> bool
+    ensures { result ≡ is_printable byte }
 {
-    let mut i: usize = 0;
-    while i < text.len() {
-        let byte = text[i];
-        if byte < 0x20 {
-            return false;
-        }
-        let beyond = 0x7E < byte;
-        if beyond {
-            return false;
-        }
-        i += 1;
-    }
-    true
+    (0x20..=0x7E).contains(&byte)
+}
+
+// Every byte of a text is such a byte.
+fn all_printable(text: &[u8]) -> bool
+    ensures { result ≡ list_all is_printable text.now }
+{
+    text.iter().all(|byte| is_printable(*byte))
 }
 
 // The label whose length is byte `from`.
+#[tactic(auto, using(crate::specs::Laws::length_within), unfolding(script::specs::Labels::label, script::specs::Labels::text))]
 fn one(s: &[u8], from: usize) -> Result<Span, Refusal>
     ensures { result ≡ found_in (label s.now (8 * from)) }
 {
-    let Some(size) = bits::byte_at(s, from) else {
-        return Err(Refusal::Cut);
-    };
+    let size = bits::byte_at(s, from).ok_or(Refusal::Cut)?;
     let too_long = 32 < size;
     if too_long {
         return Err(Refusal::Label);
@@ -52,48 +46,40 @@ fn one(s: &[u8], from: usize) -> Result<Span, Refusal>
     if !all_printable(&s[first..first + size]) {
         return Err(Refusal::Label);
     }
-    Ok(Span {
-        from: first,
-        size: size,
-    })
+    Ok(Span { from: first, size })
 }
 
-// A refusal, and an empty part.
-fn no_label(refusal: Refusal) -> Label
-    ensures { result ≡ no_label refusal }
-{
-    Label {
-        answer: Err(refusal),
-        span: Span { from: 0, size: 0 },
-    }
-}
-
-// The labels from byte `from` on, as many as `count`, and where the text of the wanted one stands, counted from 0.
-pub fn read(s: &[u8], from: usize, count: usize, wanted: usize) -> Label
-    ensures { result ≡ label_among count wanted s.now (8 * from) }
+// The text of the wanted one of the labels from byte `from` on, as many as `count`, up to the end of the bytes.
+fn among(s: &[u8], from: usize, count: usize, wanted: usize) -> Result<Span, Refusal>
+    ensures { answer_of result ≡ label_among count wanted s.now (8 * from) }
 {
     let mut at = from;
     let mut span = Span { from: 0, size: 0 };
-    let mut j: usize = 0;
-    while j < count {
-        match one(s, at) {
-            Err(refusal) => {
-                return no_label(refusal);
-            }
-            Ok(text) => {
-                at = text.from + text.size;
-                if j == wanted {
-                    span = text;
-                }
-            }
+    for j in 0..count {
+        let text = one(s, at)?;
+        at = text.from + text.size;
+        if j == wanted {
+            span = text;
         }
-        j += 1;
     }
     if at != s.len() {
-        return no_label(Refusal::LeftOver);
+        return Err(Refusal::LeftOver);
     }
-    Label {
-        answer: Ok(()),
-        span: span,
+    Ok(span)
+}
+
+// The labels from byte `from` on, as many as `count`, and where the text of the wanted one stands, counted from 0; refused, an empty part.
+pub fn read(s: &[u8], from: usize, count: usize, wanted: usize) -> Label
+    ensures { result ≡ label_among count wanted s.now (8 * from) }
+{
+    match among(s, from, count, wanted) {
+        Ok(span) => Label {
+            answer: Ok(()),
+            span,
+        },
+        Err(refusal) => Label {
+            answer: Err(refusal),
+            span: Span { from: 0, size: 0 },
+        },
     }
 }

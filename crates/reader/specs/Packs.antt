@@ -1,8 +1,7 @@
 -- All that comes before the labels, one stage after another.
-use Rattle.std.specs.Prelude.{Bool, true, false, List, ◌≡◌, refl, ℕ, ◌*◌, ◌≤◌, length, Ok, Err}
+use Rattle.std.specs.Prelude.{List, ◌≡◌, refl, ℕ, ◌*◌, ◌≤◌, length, Ok, Err, Result}
 use Rattle.std.proofs.Common.{sym, ◌∙◌, ap, arith}
 use Rattle.refusals.specs.declared.Refusal.{Refusal}
-use Rattle.refusals.specs.Answers.{Answer}
 use Rattle.bits.specs.Reading.{Got, got, refused, onward, padding}
 use Rattle.bits.specs.Packing.{holds_end}
 use Rattle.table.specs.declared.Table.{Table}
@@ -12,7 +11,7 @@ use Rattle.table.specs.Sound.{Within}
 use Rattle.roundtrip.proofs.ReadSoFar.{SoFar, first_parts}
 use Rattle.roundtrip.proofs.ReadTable.{header_read, imports_read, variables_read, entries_read}
 use Rattle.reader.specs.declared.Stage.{Stage}
-use Rattle.reader.specs.Stages.{reached_by, reached}
+use Rattle.reader.specs.Stages.{reached}
 
 -- what comes after the entries: "Zero bits up to a whole byte."
 abbrev pub after_entries : List ℕ → Table → ℕ → Got Table
@@ -35,35 +34,15 @@ pub packed_whole : (s : List ℕ) → packed_table s 0 ≡ onward (header s 0) (
 unfolding packed_table
 packed_whole s = refl
 
--- whether something was refused
-abbrev pub is_refused : Answer → Bool
-is_refused (Ok _) = false
-is_refused (Err r) = true
+-- a stage that was refused, and one that was not
+pub stage_refused : {stage : Result Stage Refusal} {m : Got Table} {r : Refusal} → reached stage ≡ m → stage ≡ Err r → m ≡ refused r
+stage_refused e is = sym e ∙ ap reached is
 
--- a stage that was refused ends the reading
-stops : (answer : Answer) (t : Table) (at : ℕ) (m : Got Table) (f : Table → ℕ → Got Table) → reached_by answer t at ≡ m → is_refused answer ≡ true
-    → reached_by answer t at ≡ onward m f
-stops (Ok _) t at m f e no_way = let z : ◌≡◌ {A = ℕ} 0 1 = cc in absurd (omega arith)
-stops (Err r) t at m f e stopped = ap (λ (x : Got Table). onward x f) e
+pub stage_stops : {stage : Result Stage Refusal} {m : Got Table} {r : Refusal} (f : Table → ℕ → Got Table) → reached stage ≡ m → stage ≡ Err r → onward m f ≡ refused r
+stage_stops f e is = ap (λ (x : Got Table). onward x f) (stage_refused e is)
 
-pub stage_stops : (stage : Stage) (m : Got Table) (f : Table → ℕ → Got Table) → reached stage ≡ m → is_refused stage.answer ≡ true
-    → reached stage ≡ onward m f
-stage_stops stage m f e stopped = stops stage.answer stage.table stage.at m f e stopped
-
--- a stage that was not leads on
-goes : (answer : Answer) (t : Table) (at : ℕ) (m : Got Table) → reached_by answer t at ≡ m → is_refused answer ≡ false → m ≡ got t at
-goes (Ok _) t at m e on = sym e
-goes (Err r) t at m e no_way = let z : ◌≡◌ {A = ℕ} 0 1 = cc in absurd (omega arith)
-
-pub stage_goes : (stage : Stage) (m : Got Table) → reached stage ≡ m → is_refused stage.answer ≡ false → m ≡ got stage.table stage.at
-stage_goes stage m e on = goes stage.answer stage.table stage.at m e on
-
--- a stage by its answer
-pub stage_refused : (stage : Stage) (m : Got Table) (r : Refusal) → reached stage ≡ m → stage.answer ≡ Err r → m ≡ refused r
-stage_refused stage m r e is = sym e ∙ ap (λ (a : Answer). reached_by a stage.table stage.at) is
-
-pub stage_accepted : (stage : Stage) (m : Got Table) → reached stage ≡ m → stage.answer ≡ Ok tt → m ≡ got stage.table stage.at
-stage_accepted stage m e is = sym e ∙ ap (λ (a : Answer). reached_by a stage.table stage.at) is
+pub stage_goes : {result : Result Stage Refusal} {m : Got Table} {stage : Stage} → reached result ≡ m → result ≡ Ok stage → m ≡ got stage.table stage.at
+stage_goes e is = sym e ∙ ap reached is
 
 -- every stage ends within the bytes
 within_bytes : {counts t : Table} {s : List ℕ} {i x k at : ℕ} → SoFar counts s i x k t at → at ≤ 8 * length s

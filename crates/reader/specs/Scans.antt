@@ -1,5 +1,5 @@
 -- What one pass over a script answers: its table, where its block of labels stands, and the label of one entry.
-use Rattle.std.specs.Prelude.{Bool, cond, List, ℕ, ◌-◌, ◌/◌, length, Ok, Err}
+use Rattle.std.specs.Prelude.{Bool, cond, List, ℕ, ◌-◌, ◌/◌, length, Ok, Err, Result}
 use Rattle.refusals.specs.declared.Refusal.{Refusal}
 use Rattle.bits.specs.Reading.{Got, got, refused}
 use Rattle.table.specs.declared.Table.{Table}
@@ -35,3 +35,8 @@ refused_scan r = record { answer = Err r; table = empty_table; block = nowhere; 
 -- the label that was found, or "30: no such entry, or, for a label, not an alarm or property"
 abbrev pub shown : Bool → Span → Label
 shown among span = cond among (record { answer = Ok tt; span = span }) (no_label Refusal.NoEntry)
+
+-- one pass, from what was read: a script that is accepted, or the refusal
+abbrev pub told : Result Scan Refusal → Scan
+told (Ok scan) = scan
+told (Err r) = refused_scan r

@@ -1,15 +1,11 @@
 -- How far reading came, in the words of the definition.
-use Rattle.std.specs.Prelude.{ℕ, Ok, Err}
-use Rattle.refusals.specs.Answers.{Answer}
+use Rattle.std.specs.Prelude.{Ok, Err, Result}
+use Rattle.refusals.specs.declared.Refusal.{Refusal}
 use Rattle.bits.specs.Reading.{Got, got, refused}
 use Rattle.table.specs.declared.Table.{Table}
 use Rattle.reader.specs.declared.Stage.{Stage}
 
--- an answer, with the table so far and the bit after it
-abbrev pub reached_by : Answer → Table → ℕ → Got Table
-reached_by (Ok _) t at = got t at
-reached_by (Err r) t at = refused r
-
--- a stage as the definition has it
-abbrev pub reached : Stage → Got Table
-reached stage = reached_by stage.answer stage.table stage.at
+-- a stage as the definition has it: the table so far with the bit after it, or the refusal
+abbrev pub reached : Result Stage Refusal → Got Table
+reached (Ok stage) = got stage.table stage.at
+reached (Err r) = refused r

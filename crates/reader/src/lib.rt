@@ -11,15 +11,15 @@ pub use scanning::{find_label, read, scan_script};
 use script::{Label, Span};
 use table::Table;
 
-// How far reading came: the table so far and the bit after it, or the refusal.
+// How far reading came: the table so far and the bit after it.
 #[derive(Clone, Copy)]
-pub struct Stage {
-    pub answer: Result<(), Refusal>,
-    pub at: usize,
-    pub table: Table,
+pub(crate) struct Stage {
+    at: usize,
+    table: Table,
 }
 
 // A script read in one pass: its table, where its block of labels stands, and the label of one entry.
+// All are asked of a refusal too, which has the empty table and empty parts: document 01; `scan_of`.
 #[derive(Clone, Copy)]
 pub struct Scan {
     pub answer: Result<(), Refusal>,

@@ -4,35 +4,30 @@ ghost use Rattle.script.specs.Reader.{entries};
 ghost use Rattle.reader.specs.Stages.{reached};
 
 use crate::Stage;
-use crate::head::refused;
-use table::{EntrySlot, Table};
+use refusals::Refusal;
+use sound::Known;
+use table::{EntrySlot, Sort, Table};
 
 // "n entries"
-pub(crate) fn rules(s: &[u8], from: usize, t: Table) -> Stage
+pub(crate) fn rules(s: &[u8], from: usize, t: Table) -> Result<Stage, Refusal>
     requires { (length s.now ≤ 4096) × ((t.n ≤ 128) × (length t.entries ≡ 128)) }
     ensures { reached result ≡ entries t.n 0 t s.now from }
 {
-    let events = t.events;
     let mut table = t;
-    let mut sorts: [u8; 128] = [0; 128];
+    let mut sorts = [Sort::None; Table::ENTRIES];
     let mut at = from;
-    let mut k: usize = 0;
-    while k < t.n {
-        match entries::read(s, at, k, t.q, t.v, &sorts, &events) {
-            Err(r) => {
-                return refused(r);
-            }
-            Ok((e, next)) => {
-                sorts[k] = kinds::sort_of_kind(kinds::apart_of(e).kind);
-                table.entries[k] = EntrySlot { entry: e };
-                at = next;
-            }
-        }
-        k += 1;
+    for k in 0..t.n {
+        let known = Known {
+            k,
+            q: t.q,
+            v: t.v,
+            sorts: &sorts,
+            events: &t.events,
+        };
+        let (entry, next) = entries::read(s, at, known)?;
+        sorts[k] = kinds::sort_of_kind(kinds::apart_of(entry).kind);
+        table.entries[k] = EntrySlot { entry };
+        at = next;
     }
-    Stage {
-        answer: Ok(()),
-        at: at,
-        table: table,
-    }
+    Ok(Stage { at, table })
 }

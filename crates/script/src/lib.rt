@@ -4,7 +4,7 @@
 use refusals::Refusal;
 use table::Table;
 
-// A script that was read: its table, or the refusal and the empty table.
+// A script that was read: its table, or the refusal and the empty table. Both are asked of a refusal too: document 01; `read_script`.
 #[derive(Clone, Copy)]
 pub struct Script {
     pub answer: Result<(), Refusal>,
@@ -18,14 +18,14 @@ pub struct Span {
     pub size: usize,
 }
 
-// The label of an entry: where its text stands, or the refusal and an empty part.
+// The label of an entry: where its text stands, or the refusal and an empty part. Both are asked of a refusal too: document 01; `label_of`.
 #[derive(Clone, Copy)]
 pub struct Label {
     pub answer: Result<(), Refusal>,
     pub span: Span,
 }
 
-// A script that was written: how many bytes it has, or the refusal and 0.
+// A script that was written: how many bytes it has, or the refusal and 0. Both are asked of a refusal too: document 01; `write_script`.
 #[derive(Clone, Copy)]
 pub struct Written {
     pub answer: Result<(), Refusal>,

@@ -21,8 +21,7 @@ fn block_fault(t: Table, block: &[u8]) -> Result<(), Refusal>
 {
     let count = labels::before(t, t.n);
     let label = labels::read(block, 0, count, count);
-    let answer = label.answer;
-    answer
+    label.answer
 }
 
 // "then 1, then 12"
@@ -39,16 +38,13 @@ fn room_fault(size: usize, room: usize) -> Result<(), Refusal>
 }
 
 // "it checks 4, then variables (13 ...), entries in order (7, 8, 13), the block (2, 10, 11), then 1, then 12"
+#[tactic(auto, using(crate::specs::Writing::writer_fault_lem))]
 fn fault(t: Table, block: &[u8], room: usize) -> Result<(), Refusal>
     ensures { result ≡ writer_fault t block.now room }
 {
-    match sound::fault(t) {
-        Err(r) => Err(r),
-        Ok(()) => match block_fault(t, block) {
-            Err(r) => Err(r),
-            Ok(()) => room_fault(packed_size(t) + block.len(), room),
-        },
-    }
+    sound::fault(t)?;
+    block_fault(t, block)?;
+    room_fault(packed_size(t) + block.len(), room)
 }
 
 // The block, copied behind the first bytes.
@@ -56,11 +52,7 @@ fn copy(dst: &mut [u8], from: usize, block: &[u8])
     requires { from + length block.now ≤ length dst.old }
     ensures { dst.new ≡ paste dst.old from block.now (length block.now) }
 {
-    let mut i: usize = 0;
-    while i < block.len() {
-        dst[from + i] = block[i];
-        i += 1;
-    }
+    dst[from..from + block.len()].copy_from_slice(block);
 }
 
 // The packed table at the front, and the block behind it; how many bytes they are.

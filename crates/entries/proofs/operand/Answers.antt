@@ -1,7 +1,8 @@
--- `entries::operand` meets its contract: a refusal is handed on; else the operand is the one at the bit after what was taken.
-use Rattle.entries.specs.Takings.{none_after}
+-- `entries::operand` meets its contract: a field that is there ends within the script's bytes.
+use mathlib.Core.Path.{sym, ◌∙◌}
+use native.Mathlib.Omega.{arith}
+use Rattle.bits.specs.Fields.{there_ends}
 use Rattle.entries.proofs.operand.Goals as goal
 
--- there is no operand
-pub returns-then-w-eq0 : goal.returns-then-w-eq0
-returns-then-w-eq0 c = none_after _ _ _ _ _ _ _ _ c.in-Ok.is _ c.width-w.ensures c.if-w-eq0.true
+pub overflow_add-result : goal.overflow_add-result
+overflow_add-result c = omega (arith, there_ends c.args.s.now _ _ _ (sym c.field_at.ensures ∙ c.in_ok-number.ensures.ok_part), c.requires)

@@ -21,13 +21,11 @@ pub returns-then-not-in_range : goal.returns-then-not-in_range
 returns-then-not-in_range c =
     sym
     (fault_found (faultAt c.args.variables) _ c.loop-x.x Refusal.Range
-    c.loop-x-test.true c.loop-x.invariant.1
+    c.loop-x-test.true c.loop-x.invariant
     (judged (sym c.in_range.ensures ∙ c.if-not-in_range.true) (number_said_lem _)))
 
 pub loop-x-preserved : goal.loop-x-preserved
-loop-x-preserved c = (
-  search rules,
-  fault_none (faultAt c.args.variables) c.loop-x.x
-      c.loop-x.invariant.1
-      (judged (sym c.in_range.ensures ∙ c.if-not-in_range.false) (number_said_lem _)),
-)
+loop-x-preserved c =
+    fault_none (faultAt c.args.variables) c.loop-x.x
+    c.loop-x.invariant
+    (judged (sym c.in_range.ensures ∙ c.if-not-in_range.false) (number_said_lem _))

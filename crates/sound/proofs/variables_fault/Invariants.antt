@@ -2,7 +2,7 @@
 use Rattle.std.proofs.Common.{Ok}
 use mathlib.Core.List.{List}
 use mathlib.Core.Path.{◌≡◌}
-use Prim.Native.Nat.{ℕ, ◌≤◌, ◌-◌}
+use Prim.Native.Nat.{ℕ}
 use Rattle.refusals.specs.Answers.{Answer}
 use Rattle.refusals.specs.Numbering.{first_fault}
 use Rattle.table.specs.declared.VariableSlot.{VariableSlot}
@@ -14,7 +14,4 @@ abbrev pub faultAt : List VariableSlot → ℕ → Answer
 faultAt variables x = number_fault (number_at variables x)
 
 abbrev pub invariant-loop-x : goal.invariant-loop-x
-invariant-loop-x l = (l.x ≤ l.v) × (first_fault l.x (faultAt l.variables) ≡ Ok tt)
-
-abbrev pub decreases-loop-x : goal.decreases-loop-x
-decreases-loop-x l = l.v - l.x
+invariant-loop-x l = first_fault l.x (faultAt l.variables) ≡ Ok tt

@@ -4,4 +4,4 @@ use Rattle.writer.specs.Puts.{Puts}
 use Rattle.writer.proofs.packing.put_entries.Given as goal
 
 abbrev pub invariant-loop-k : goal.invariant-loop-k
-invariant-loop-k l = Puts l.initial.dst l.from (entries_parts l.t l.k) l.dst l.at
+invariant-loop-k l = Puts l.initial.dst l.from (entries_parts l.fn.t l.k) l.dst l.at

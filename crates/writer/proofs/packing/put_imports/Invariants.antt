@@ -4,4 +4,4 @@ use Rattle.writer.specs.Puts.{Puts}
 use Rattle.writer.proofs.packing.put_imports.Given as goal
 
 abbrev pub invariant-loop-i : goal.invariant-loop-i
-invariant-loop-i l = Puts l.initial.dst l.from (imports_parts l.t l.i) l.dst l.at
+invariant-loop-i l = Puts l.initial.dst l.from (imports_parts l.fn.t l.i) l.dst l.at

@@ -6,4 +6,4 @@ use Rattle.writer.specs.Parts.{entries_parts}
 use Rattle.writer.proofs.sizes.packed_size.Given as goal
 
 abbrev pub invariant-loop-k : goal.invariant-loop-k
-invariant-loop-k l = l.width ≡ 32 + l.t.q + l.t.v * 49 + width_of_all (entries_parts l.t l.k)
+invariant-loop-k l = (l.width ≡ 32 + l.fn.t.q + l.fn.t.v * 49 + width_of_all (entries_parts l.fn.t l.k))
