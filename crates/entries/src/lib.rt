@@ -31,7 +31,9 @@ fn operand(s: &[u8], at: usize, o: Operand, known: Known) -> Result<Taking, Refu
             next: at,
         });
     }
-    let number = bits::field_at(s, at, w).ok_or(Refusal::Cut)?;
+    let Some(number) = bits::field_at(s, at, w) else {
+        return Err(Refusal::Cut);
+    };
     known.judge(o.holding(number))?;
     Ok(Taking {
         number,
@@ -48,7 +50,9 @@ pub fn read(s: &[u8], at: usize, known: Known) -> Result<(Entry, usize), Refusal
     if too_long {
         return Err(Refusal::TooLong);
     }
-    let kind = bits::field_at(s, at, 5).ok_or(Refusal::Cut)?;
+    let Some(kind) = bits::field_at(s, at, 5) else {
+        return Err(Refusal::Cut);
+    };
     let unknown = 25 <= kind;
     if unknown {
         return Err(Refusal::Kind);

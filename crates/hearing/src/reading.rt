@@ -76,11 +76,15 @@ pub fn hear(
 ) -> Result<u64, Refusal>
     ensures { (t : tables.Table) → t.q ≡ q → events.now ≡ event_words t → told.old ≡ replicate 64 0 → Heard t earliest s.now result told.new }
 {
-    let time = bits::field_at(s, 0, 47).ok_or(Refusal::StepCut)?;
+    let Some(time) = bits::field_at(s, 0, 47) else {
+        return Err(Refusal::StepCut);
+    };
     if time < earliest {
         return Err(Refusal::Time);
     }
-    let count = bits::field_at(s, 47, 6).ok_or(Refusal::StepCut)?;
+    let Some(count) = bits::field_at(s, 47, 6) else {
+        return Err(Refusal::StepCut);
+    };
     reports(q, count as usize, events, s, told)?;
     Ok(time)
 }

@@ -32,7 +32,9 @@ fn all_printable(text: &[u8]) -> bool
 fn one(s: &[u8], from: usize) -> Result<Span, Refusal>
     ensures { result ≡ found_in (label s.now (8 * from)) }
 {
-    let size = bits::byte_at(s, from).ok_or(Refusal::Cut)?;
+    let Some(size) = bits::byte_at(s, from) else {
+        return Err(Refusal::Cut);
+    };
     let too_long = 32 < size;
     if too_long {
         return Err(Refusal::Label);

@@ -14,15 +14,23 @@ fn counts(s: &[u8], at: usize, n: usize) -> Result<Stage, Refusal>
     requires { at ≤ 65536 }
     ensures { reached result ≡ counts n s.now at }
 {
-    let q = bits::field_at(s, at, 6).ok_or(Refusal::Cut)? as usize;
+    let Some(q) = bits::field_at(s, at, 6) else {
+        return Err(Refusal::Cut);
+    };
+    let q = q as usize;
     if Table::IMPORTS < q {
         return Err(Refusal::ImportCount);
     }
-    let v = bits::field_at(s, at + 6, 6).ok_or(Refusal::Cut)? as usize;
+    let Some(v) = bits::field_at(s, at + 6, 6) else {
+        return Err(Refusal::Cut);
+    };
+    let v = v as usize;
     if Table::VARIABLES < v {
         return Err(Refusal::VariableCount);
     }
-    let zeros = bits::field_at(s, at + 12, 4).ok_or(Refusal::Cut)?;
+    let Some(zeros) = bits::field_at(s, at + 12, 4) else {
+        return Err(Refusal::Cut);
+    };
     if zeros != 0 {
         return Err(Refusal::HeaderBits);
     }
@@ -40,11 +48,16 @@ fn counts(s: &[u8], at: usize, n: usize) -> Result<Stage, Refusal>
 pub(crate) fn header(s: &[u8]) -> Result<Stage, Refusal>
     ensures { reached result ≡ header s.now 0 }
 {
-    let format = bits::field_at(s, 0, 8).ok_or(Refusal::Cut)?;
+    let Some(format) = bits::field_at(s, 0, 8) else {
+        return Err(Refusal::Cut);
+    };
     if format != 1 {
         return Err(Refusal::Format);
     }
-    let n = bits::field_at(s, 8, 8).ok_or(Refusal::Cut)? as usize;
+    let Some(n) = bits::field_at(s, 8, 8) else {
+        return Err(Refusal::Cut);
+    };
+    let n = n as usize;
     let too_many = Table::ENTRIES < n;
     if n < 1 || too_many {
         return Err(Refusal::EntryCount);
@@ -59,7 +72,9 @@ pub(crate) fn imports(s: &[u8], at: usize, t: Table) -> Result<Stage, Refusal>
 {
     let mut table = t;
     for i in 0..t.q {
-        let bit = bits::field_at(s, at + i, 1).ok_or(Refusal::Cut)?;
+        let Some(bit) = bits::field_at(s, at + i, 1) else {
+            return Err(Refusal::Cut);
+        };
         table.events[i] = bit == 1;
     }
     Ok(Stage {
@@ -87,8 +102,12 @@ pub(crate) fn variables(s: &[u8], at: usize, t: Table) -> Result<Stage, Refusal>
     let mut table = t;
     let mut next = at;
     for x in 0..t.v {
-        let bit = bits::field_at(s, next, 1).ok_or(Refusal::Cut)?;
-        let number = bits::field_at(s, next + 1, 48).ok_or(Refusal::Cut)?;
+        let Some(bit) = bits::field_at(s, next, 1) else {
+            return Err(Refusal::Cut);
+        };
+        let Some(number) = bits::field_at(s, next + 1, 48) else {
+            return Err(Refusal::Cut);
+        };
         let undefined = bit != 1;
         if undefined && number != 0 {
             return Err(Refusal::Initial);

@@ -16,7 +16,9 @@ fn padded(s: &[u8], at: usize, table: Table) -> Result<Stage, Refusal>
     ensures { reached result ≡ after_entries s.now table at }
 {
     let w = (8 - at % 8) % 8;
-    let zeros = bits::field_at(s, at, w).ok_or(Refusal::Cut)?;
+    let Some(zeros) = bits::field_at(s, at, w) else {
+        return Err(Refusal::Cut);
+    };
     if zeros != 0 {
         return Err(Refusal::Padding);
     }

@@ -23,7 +23,9 @@ pub fn close(s: &[u8], at: usize) -> Result<(), Refusal>
     ensures { result ≡ closed s.now at }
 {
     let w = (8 - at % 8) % 8;
-    let zeros = rest_of_byte(s, at, w).ok_or(Refusal::StepCut)?;
+    let Some(zeros) = rest_of_byte(s, at, w) else {
+        return Err(Refusal::StepCut);
+    };
     let padded = zeros != 0;
     if padded {
         return Err(Refusal::StepPadding);

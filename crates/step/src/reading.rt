@@ -90,11 +90,15 @@ fn accepted(
 ) -> Result<Taken, Refusal>
     ensures { taken_from reported result ≡ taken_of reported (read_step t earliest s.now 0) }
 {
-    let time = bits::field_at(s, 0, 47).ok_or(Refusal::StepCut)?;
+    let Some(time) = bits::field_at(s, 0, 47) else {
+        return Err(Refusal::StepCut);
+    };
     if time < earliest {
         return Err(Refusal::Time);
     }
-    let count = bits::field_at(s, 47, 6).ok_or(Refusal::StepCut)?;
+    let Some(count) = bits::field_at(s, 47, 6) else {
+        return Err(Refusal::StepCut);
+    };
     reports(t, time, count as usize, reported, s)
 }
 

@@ -12,7 +12,9 @@ fn condition<T: Telling>(s: &[u8], at: usize, imported: usize) -> Result<Heard<T
     requires { at ≤ 65536 }
     ensures { result ≡ heard_of T.form (about imported (condition_report s.now at)) }
 {
-    let code = bits::field_at(s, at, 2).ok_or(Refusal::StepCut)?;
+    let Some(code) = bits::field_at(s, at, 2) else {
+        return Err(Refusal::StepCut);
+    };
     let unknown = 3 <= code;
     if unknown {
         return Err(Refusal::ConditionReport);
@@ -29,7 +31,9 @@ fn event<T: Telling>(s: &[u8], at: usize, imported: usize) -> Result<Heard<T>, R
     requires { at ≤ 65536 }
     ensures { result ≡ heard_of T.form (about imported (event_report s.now at)) }
 {
-    let bit = bits::field_at(s, at, 1).ok_or(Refusal::StepCut)?;
+    let Some(bit) = bits::field_at(s, at, 1) else {
+        return Err(Refusal::StepCut);
+    };
     let first = at + 1;
     if bit != 1 {
         return Ok(Heard {
@@ -38,7 +42,9 @@ fn event<T: Telling>(s: &[u8], at: usize, imported: usize) -> Result<Heard<T>, R
             next: first,
         });
     }
-    let value = bits::field_at(s, first, 48).ok_or(Refusal::StepCut)?;
+    let Some(value) = bits::field_at(s, first, 48) else {
+        return Err(Refusal::StepCut);
+    };
     Ok(Heard {
         imported,
         told: T::valued(value),
@@ -68,7 +74,10 @@ pub fn import(s: &[u8], at: usize, q: usize, least: usize) -> Result<usize, Refu
     requires { at ≤ 65536 }
     ensures { (t : tables.Table) → t.q ≡ q → result ≡ import_at t least s.now at }
 {
-    let i = bits::field_at(s, at, 6).ok_or(Refusal::StepCut)? as usize;
+    let Some(i) = bits::field_at(s, at, 6) else {
+        return Err(Refusal::StepCut);
+    };
+    let i = i as usize;
     if q <= i {
         return Err(Refusal::StepImport);
     }

@@ -5,4 +5,4 @@ use Rattle.bits.specs.Fields.{there_ends}
 use Rattle.entries.proofs.operand.Goals as goal
 
 pub overflow_add-result : goal.overflow_add-result
-overflow_add-result c = omega (arith, there_ends c.args.s.now _ _ _ (sym c.field_at.ensures ∙ c.in_ok-number.ensures.ok_part), c.requires)
+overflow_add-result c = omega (arith, there_ends c.args.s.now _ _ _ (sym c.field_at.ensures ∙ c.in-Some.is), c.requires)

@@ -23,8 +23,8 @@ pub returns-then-not-all_printable : goal.returns-then-not-all_printable
 returns-then-not-all_printable c =
     let bytes : List ℕ = c.args.s.now in
     let place : ℕ = c.args.from in
-    let long : ℕ = c.in_ok-size.size in
-    let there : field_at bytes (8 * place) 8 ≡ Some long = sym c.byte_at.ensures ∙ c.in_ok-size.ensures.ok_part in
+    let long : ℕ = c.in-Some.size in
+    let there : field_at bytes (8 * place) 8 ≡ Some long = sym c.byte_at.ensures ∙ c.in-Some.is in
     let begun : place < length bytes = length_within bytes place long there in
     let on-text : label bytes (8 * place) ≡ text long bytes (8 * (place + 1)) = label_text_lem bytes place long there (omega arith) in
     let outside = judged bytes (place + 1) long c.all_printable.ensures ∙ c.if-not-all_printable.true in
@@ -34,8 +34,8 @@ pub returns : goal.returns
 returns c =
     let bytes : List ℕ = c.args.s.now in
     let place : ℕ = c.args.from in
-    let long : ℕ = c.in_ok-size.size in
-    let there : field_at bytes (8 * place) 8 ≡ Some long = sym c.byte_at.ensures ∙ c.in_ok-size.ensures.ok_part in
+    let long : ℕ = c.in-Some.size in
+    let there : field_at bytes (8 * place) 8 ≡ Some long = sym c.byte_at.ensures ∙ c.in-Some.is in
     let begun : place < length bytes = length_within bytes place long there in
     let on-text : label bytes (8 * place) ≡ text long bytes (8 * (place + 1)) = label_text_lem bytes place long there (omega arith) in
     let inside = judged bytes (place + 1) long c.all_printable.ensures ∙ c.if-not-all_printable.false in

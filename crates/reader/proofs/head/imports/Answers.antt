@@ -9,19 +9,19 @@ use Rattle.script.specs.Reader.{with_event, imports}
 use Rattle.reader.specs.Heads.{import_cut, import_next, imports_done}
 use Rattle.reader.proofs.head.imports.Goals as goal
 
-pub returns-in_err-bit : goal.returns-in_err-bit
-returns-in_err-bit c =
+pub returns-in_default : goal.returns-in_default
+returns-in_default c =
     let i = c.loop-i.i in
-    let cut = import_cut c.args.t.q i c.loop-i-test.true c.loop-i.table c.args.s.now (c.args.at + i) (sym c.field_at.ensures ∙ c.in_err-bit.ensures.ok_part) in
+    let cut = import_cut c.args.t.q i c.loop-i-test.true c.loop-i.table c.args.s.now (c.args.at + i) (sym c.field_at.ensures ∙ c.in_default.is) in
     rw (sym c.loop-i.invariant ∙ cut) (search rules)
 
 pub loop-i-preserved : goal.loop-i-preserved
 loop-i-preserved c =
     let i = c.loop-i.i in
-    let more = with_event c.loop-i.table i (eqb c.in_ok-bit.bit 1) in
+    let more = with_event c.loop-i.table i (eqb c.in-Some.bit 1) in
     ap (imports (c.args.t.q - (i + 1)) (i + 1) more c.args.s.now) {x = c.args.at + (i + 1)} {y = c.args.at + i + 1} (omega arith)
     ∙ sym (import_next c.args.t.q i c.loop-i-test.true c.loop-i.table c.args.s.now (c.args.at + i)
-    c.in_ok-bit.bit (sym c.field_at.ensures ∙ c.in_ok-bit.ensures.ok_part))
+    c.in-Some.bit (sym c.field_at.ensures ∙ c.in-Some.is))
     ∙ c.loop-i.invariant
 
 pub returns : goal.returns

@@ -6,14 +6,14 @@ use Rattle.step.proofs.report.import.Goals as goal
 
 pub returns-then-q-i : goal.returns-then-q-i
 unfolding import_fault
-returns-then-q-i c t q-is = rw (sym c.field_at.ensures ∙ c.in_ok-i.ensures.ok_part, le-ltb c.in_ok-i.i t.q (omega arith))
+returns-then-q-i c t q-is = rw (sym c.field_at.ensures ∙ c.in-Some.is, le-ltb c.in-Some.i t.q (omega arith))
 
 pub returns-then-i-least : goal.returns-then-i-least
 unfolding import_fault
 returns-then-i-least c t q-is =
-    rw (sym c.field_at.ensures ∙ c.in_ok-i.ensures.ok_part, lt-ltb c.in_ok-i.i t.q (omega arith), lt-leb c.args.least c.in_ok-i.i (omega arith))
+    rw (sym c.field_at.ensures ∙ c.in-Some.is, lt-ltb c.in-Some.i t.q (omega arith), lt-leb c.args.least c.in-Some.i (omega arith))
 
 pub returns : goal.returns
 unfolding import_fault
 returns c t q-is =
-    rw (sym c.field_at.ensures ∙ c.in_ok-i.ensures.ok_part, lt-ltb c.in_ok-i.i t.q (omega arith), le-leb c.args.least c.in_ok-i.i (omega arith))
+    rw (sym c.field_at.ensures ∙ c.in-Some.is, lt-ltb c.in-Some.i t.q (omega arith), le-leb c.args.least c.in-Some.i (omega arith))
