@@ -16,7 +16,6 @@ use Rattle.script.specs.declared.Script.{Script}
 use Rattle.script.specs.Reader.{script_of, script_reply, read_script}
 use Rattle.roundtrip.proofs.ReadAgain.{read_shaped, read_sound}
 use Rattle.parts.specs.Shown.{outcome_number}
-use Rattle.step.specs.declared.TruthSlot.{TruthSlot}
 use Rattle.step.specs.Steps.{Step}
 use Rattle.history.specs.History.{result_at}
 use Rattle.history.specs.Offered.{offered, grown, history_of}
@@ -78,7 +77,7 @@ module _ (script : List ℕ) (t : Table) (end : ℕ) (whole : script_of script �
   fresh_kept =
       record {
         table = read_shaped script t end whole;
-        reported = length-replicate {A = TruthSlot} limits.imports (record { truth = Truth.Undefined });
+        reported = length-replicate {A = Truth} limits.imports Truth.Undefined;
         held = (read_shaped script t end whole).variables;
         cells = length-replicate {A = ℕ} limits.slots 0;
       }

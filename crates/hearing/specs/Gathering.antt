@@ -15,8 +15,6 @@ use Rattle.bits.specs.Reading.{Got, got, refused}
 use Rattle.table.specs.declared.Table.{Table}
 use Rattle.table.specs.Limits.{limits}
 use Rattle.step.specs.declared.Told.{Told}
-use Rattle.step.specs.declared.ToldSlot.{ToldSlot}
-use Rattle.step.specs.declared.TruthSlot.{TruthSlot}
 use Rattle.step.specs.declared.Taken.{Taken}
 use Rattle.step.specs.Steps.{Report, Step}
 use Rattle.step.specs.Taking.{told_at, truth_at, reported_now, told_slots, taken_of}
@@ -42,56 +40,56 @@ length_kept words i word =
     ]
 
 -- before any report every word is 0
-words_none : replicate 64 0 ≡ told_words (replicate limits.imports (record { told = Told.Nothing }))
+words_none : replicate 64 0 ≡ told_words (replicate limits.imports Told.Nothing)
 words_none =
-    list_all 64 (λ i. told_word (told_at (replicate limits.imports (record { told = Told.Nothing })) i)) 0
-    (λ i h. ap (λ (x : ToldSlot). told_word x.told) (sym (get_d_padded [] limits.imports i (record { told = Told.Nothing }))))
+    list_all 64 (λ i. told_word (told_at (replicate limits.imports Told.Nothing) i)) 0
+    (λ i h. ap told_word (sym (get_d_padded [] limits.imports i Told.Nothing)))
 
-module _ (slots : List ToldSlot) (full : length slots ≡ limits.imports) (i : ℕ) (x : Told) where
+module _ (slots : List Told) (full : length slots ≡ limits.imports) (i : ℕ) (x : Told) where
   -- with one slot filled anew, its word is the new one's
-  word_set : i < limits.imports → set (told_words slots) i (told_word x) ≡ told_words (set slots i (record { told = x }))
+  word_set : i < limits.imports → set (told_words slots) i (told_word x) ≡ told_words (set slots i x)
   word_set h =
-      list_set 64 (λ j. told_word (told_at slots j)) (λ j. told_word (told_at (set slots i (record { told = x })) j)) i (told_word x)
-      (λ inside. ap (λ (y : ToldSlot). told_word y.told) (sym (get_or-set_same slots i (record { told = x }) (record { told = Told.Nothing }) (omega arith))))
+      list_set 64 (λ j. told_word (told_at slots j)) (λ j. told_word (told_at (set slots i x) j)) i (told_word x)
+      (λ inside. ap told_word (sym (get_or-set_same slots i x Told.Nothing (omega arith))))
       (λ j inside other.
-      ap (λ (y : ToldSlot). told_word y.told) (sym (get_or-set_other slots i j (record { told = x }) (record { told = Told.Nothing }) other)))
+      ap told_word (sym (get_or-set_other slots i j x Told.Nothing other)))
 
   -- and past the slots nothing is kept
-  word_kept : kept_at (told_words slots) i (told_word x) ≡ told_words (set slots i (record { told = x }))
+  word_kept : kept_at (told_words slots) i (told_word x) ≡ told_words (set slots i x)
   word_kept =
       elim (dec_lt i limits.imports) [
         | yes h ↦ ap (λ (b : Bool). cond b (set (told_words slots) i (told_word x)) (told_words slots)) (lt-ltb i limits.imports h) ∙ word_set h
         | no h ↦
             ap (λ (b : Bool). cond b (set (told_words slots) i (told_word x)) (told_words slots)) (le-ltb i limits.imports (omega arith))
-            ∙ ap told_words (sym (set_out slots i (record { told = x }) (omega arith)))
+            ∙ ap told_words (sym (set_out slots i x (omega arith)))
       ]
 
 -- the answer to the reports and the end of a step, and the words of what they tell, whatever its time and whatever was reported before it
 pub record Gathered (t : Table) (count : ℕ) (s : List ℕ) (answer : Answer) (words : List ℕ) : Type 0 where
-  pub answers : (before : List TruthSlot) (time : ℕ) → answer ≡ (taken_of before (after_count t time count s)).answer
-  pub times : (before : List TruthSlot) (time : ℕ) → answer ≡ Ok tt → time ≡ (taken_of before (after_count t time count s)).time
-  pub told : (before : List TruthSlot) (time : ℕ) → answer ≡ Ok tt → words ≡ told_words (taken_of before (after_count t time count s)).told
+  pub answers : (before : List Truth) (time : ℕ) → answer ≡ (taken_of before (after_count t time count s)).answer
+  pub times : (before : List Truth) (time : ℕ) → answer ≡ Ok tt → time ≡ (taken_of before (after_count t time count s)).time
+  pub told : (before : List Truth) (time : ℕ) → answer ≡ Ok tt → words ≡ told_words (taken_of before (after_count t time count s)).told
 
 -- a refusal is no acceptance
 pub no_acceptance : {X : Type 0} (r : Refusal) → ◌≡◌ {A = Answer} (Err r) (Ok tt) → X
 no_acceptance r e = absurd (let z : ◌≡◌ {A = ℕ} 0 1 = cc e in omega arith)
 
 -- nothing was reported before
-abbrev unreported : List TruthSlot
-unreported = replicate limits.imports (record { truth = Truth.Undefined })
+abbrev unreported : List Truth
+unreported = replicate limits.imports Truth.Undefined
 
 -- what was reported before changes neither the answer
-any_answer : (g : Got Step) (before : List TruthSlot) → (taken_of unreported g).answer ≡ (taken_of before g).answer
+any_answer : (g : Got Step) (before : List Truth) → (taken_of unreported g).answer ≡ (taken_of before g).answer
 any_answer (got s end) before = refl
 any_answer (refused r) before = refl
 
 -- nor the time
-any_time : (g : Got Step) (before : List TruthSlot) → (taken_of unreported g).time ≡ (taken_of before g).time
+any_time : (g : Got Step) (before : List Truth) → (taken_of unreported g).time ≡ (taken_of before g).time
 any_time (got s end) before = refl
 any_time (refused r) before = refl
 
 -- nor what is told
-any_told : (g : Got Step) (before : List TruthSlot) → (taken_of unreported g).told ≡ (taken_of before g).told
+any_told : (g : Got Step) (before : List Truth) → (taken_of unreported g).told ≡ (taken_of before g).told
 any_told (got s end) before = refl
 any_told (refused r) before = refl
 
@@ -106,7 +104,7 @@ module _ {t : Table} {count : ℕ} {s : List ℕ} where
       }
 
   -- there is none
-  gathered_accepted : (slots : List ToldSlot) (reported : List TruthSlot) {words : List ℕ} → words ≡ told_words slots
+  gathered_accepted : (slots : List Told) (reported : List Truth) {words : List ℕ} → words ≡ told_words slots
       → ((time : ℕ) → taken_of unreported (after_count t time count s)
       ≡ record { answer = Ok tt; time = time; told = slots; reported = reported })
       → Gathered t count s (Ok tt) words
@@ -120,8 +118,8 @@ module _ {t : Table} {count : ℕ} {s : List ℕ} where
 
 -- the words of the reports so far, from slots that they fill
 pub record Hears (t : Table) (count : ℕ) (s words : List ℕ) (at least left : ℕ) : Type 0 where
-  pub slots : List ToldSlot
-  pub reported : List TruthSlot
+  pub slots : List Told
+  pub reported : List Truth
   pub sofar : SoFar t count unreported s slots reported at least left
   pub are : words ≡ told_words slots
 
@@ -140,9 +138,9 @@ gathers_none t count s first all =
       long = refl;
       hears = λ empty.
           record {
-            slots = replicate limits.imports (record { told = Told.Nothing });
+            slots = replicate limits.imports Told.Nothing;
             reported = unreported;
-            sofar = heard_none t count unreported s (length-replicate {A = TruthSlot} limits.imports (record { truth = Truth.Undefined })) all;
+            sofar = heard_none t count unreported s (length-replicate {A = Truth} limits.imports Truth.Undefined) all;
             are = empty ∙ words_none;
           };
     }
@@ -158,8 +156,8 @@ module _ {t : Table} {count : ℕ} {s words : List ℕ} {at least left : ℕ} (h
       → Hears t count s (kept_at words r.imported (told_word r.told)) next (r.imported + 1) (left - 1)
   hears_more more r next e =
       record {
-        slots = set h.slots r.imported (record { told = r.told });
-        reported = set h.reported r.imported (record { truth = reported_now r.told (truth_at unreported r.imported) });
+        slots = set h.slots r.imported r.told;
+        reported = set h.reported r.imported (reported_now r.told (truth_at unreported r.imported));
         sofar = one_more h.sofar more r next e;
         are =
             ap (λ (l : List ℕ). kept_at l r.imported (told_word r.told)) h.are ∙ word_kept h.slots slots_full r.imported r.told;

@@ -27,8 +27,8 @@ rules events initial entries =
       q = length events;
       v = length initial;
       events = padded limits.imports false events;
-      variables = padded limits.variables (record { number = Number.Undefined }) (map (λ y. record { number = y }) initial);
-      entries = padded limits.slots (record { entry = Constant (pos 0) }) (map (λ e. record { entry = e }) entries);
+      variables = padded limits.variables Number.Undefined initial;
+      entries = padded limits.slots (Constant (pos 0)) entries;
     }
 
 -- a step at a time, and its reports

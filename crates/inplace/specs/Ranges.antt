@@ -15,7 +15,6 @@ use Rattle.values.specs.Truths.{is_true, is_false}
 use Rattle.values.specs.Numbers.{fits_n}
 use Rattle.values.specs.Outcomes.{condition_in, event_in, number_in, is_done}
 use Rattle.bits.specs.Filled.{get_d_padded}
-use Rattle.table.specs.declared.VariableSlot.{VariableSlot}
 use Rattle.table.specs.Limits.{limits}
 use Rattle.table.specs.Tables.{entry_at, number_at}
 use Rattle.step.specs.declared.Taken.{Taken}
@@ -73,9 +72,9 @@ remember_fits Memory.Failed x y now cell late old = elim (is_false (condition_in
 remember_fits Memory.Latest x y now cell late old = elim (event_in x) as (λ b. kept_fits (latest_now b now cell) ≡ true) [ true ↦ late | false ↦ old ]
 
 -- an update gives a variable a number in range
-given_fits : (b : Bool) (v : ℕ) (n : Number) (held : List VariableSlot) → fits_n n ≡ true → ((x : ℕ) → fits_n (number_at held x) ≡ true)
+given_fits : (b : Bool) (v : ℕ) (n : Number) (held : List Number) → fits_n n ≡ true → ((x : ℕ) → fits_n (number_at held x) ≡ true)
     → (x : ℕ) → fits_n (number_at (held_after b v n held) x) ≡ true
-given_fits true v n held here each x = all_set (λ slot. fits_n slot.number ≡ true) _ (record { number = n }) held here each v x
+given_fits true v n held here each x = all_set (λ slot. fits_n slot ≡ true) _ n held here each v x
 given_fits false v n held here each x = each x
 
 module _ (m : Monitor) (shape : Kept m) (good : unsound m ≡ Ok tt) where
@@ -84,7 +83,7 @@ module _ (m : Monitor) (shape : Kept m) (good : unsound m ≡ Ok tt) where
   held_first x =
       elim (dec_lt x limits.variables) [
         | yes slot ↦ (kept_of m good).held x slot
-        | no past ↦ ap (λ (slot : VariableSlot). fits_n slot.number) (get_or-eq_default m.held _ (omega (arith, shape.held)))
+        | no past ↦ ap fits_n (get_or-eq_default m.held _ (omega (arith, shape.held)))
       ]
 
   cells_first : (j : ℕ) → kept_fits (cell_at m j) ≡ true
@@ -123,7 +122,7 @@ module _ (m : Monitor) (shape : Kept m) (good : unsound m ≡ Ok tt) where
         let x = result_in w.results (places_of e).first in
         let y = result_in w.results (places_of e).second in
         record {
-          results = λ j. all_set (λ slot. fits_n (number_in slot.outcome) ≡ true) _ _ w.results
+          results = λ j. all_set (λ slot. fits_n (number_in slot) ≡ true) _ _ w.results
               (meaning_fits m.table k e ((sound_of m good).operands k (omega arith)) x y (recalled m s w k) (recalled_fits w so k))
               so.results k j;
           held = given_fits (is_done (meaning e x y (recalled m s w k))) (places_of e).variable (number_in y) w.held (so.results (places_of e).second) so.held;
@@ -139,8 +138,8 @@ pub record WalkKept (w : Walk) : Type 0 where
   pub cells : length w.cells ≡ limits.slots
 
 -- a variable that is given a number keeps its slot
-length_given : (b : Bool) (v : ℕ) (n : Number) (held : List VariableSlot) → length (held_after b v n held) ≡ length held
-length_given true v n held = length-set held v (record { number = n })
+length_given : (b : Bool) (v : ℕ) (n : Number) (held : List Number) → length (held_after b v n held) ≡ length held
+length_given true v n held = length-set held v n
 length_given false v n held = refl
 
 -- the slots stay

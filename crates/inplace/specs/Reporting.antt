@@ -14,7 +14,6 @@ use Rattle.bits.specs.Lists.{get_d_list}
 use Rattle.bits.specs.Filled.{list_is}
 use Rattle.table.specs.Limits.{limits}
 use Rattle.step.specs.declared.Told.{Told}
-use Rattle.step.specs.declared.TruthSlot.{TruthSlot}
 use Rattle.step.specs.declared.Taken.{Taken}
 use Rattle.step.specs.Taking.{told_at, truth_at, reported_now}
 use Rattle.monitor.specs.declared.Monitor.{Monitor}
@@ -45,12 +44,12 @@ report_now (Told.Event Number.Undefined) before = refl
 report_now (Told.Event (Number.Whole z)) before = number_silent z (in_range z) refl (truth_word before)
 
 -- the last reported values, once the first i imports are gone through
-unfoldable pub reported_to : Monitor → Taken → ℕ → List TruthSlot
+unfoldable pub reported_to : Monitor → Taken → ℕ → List Truth
 reported_to m s zero = m.reported
-reported_to m s (suc i) = set (reported_to m s i) i (record { truth = reported_now (told_at s.told i) (truth_at m.reported i) })
+reported_to m s (suc i) = set (reported_to m s i) i (reported_now (told_at s.told i) (truth_at m.reported i))
 
 -- the monitor with these
-abbrev pub reported_in : Monitor → List TruthSlot → Monitor
+abbrev pub reported_in : Monitor → List Truth → Monitor
 reported_in m reported = record { table = m.table; last = m.last; reported = reported; held = m.held; cells = m.cells }
 
 module _ (m : Monitor) (s : Taken) where
@@ -58,16 +57,16 @@ module _ (m : Monitor) (s : Taken) where
   pub length_reported : (i : ℕ) → length (reported_to m s i) ≡ length m.reported
   unfolding reported_to
   length_reported zero = refl
-  length_reported (suc i) = length-set {A = TruthSlot} (reported_to m s i) i (record { truth = reported_now (told_at s.told i) (truth_at m.reported i) }) ∙ length_reported i
+  length_reported (suc i) = length-set {A = Truth} (reported_to m s i) i (reported_now (told_at s.told i) (truth_at m.reported i)) ∙ length_reported i
 
   -- those that are still to come are as before
   reported_later : (i j : ℕ) → i ≤ j → truth_at (reported_to m s i) j ≡ truth_at m.reported j
   unfolding reported_to
   reported_later zero j h = refl
   reported_later (suc i) j h =
-      ap (λ (slot : TruthSlot). slot.truth)
-      (get_or-set_other {A = TruthSlot} (reported_to m s i) i j (record { truth = reported_now (told_at s.told i) (truth_at m.reported i) })
-      (record { truth = Truth.Undefined }) (λ same. omega arith))
+      ap (λ (slot : Truth). slot)
+      (get_or-set_other {A = Truth} (reported_to m s i) i j (reported_now (told_at s.told i) (truth_at m.reported i))
+      Truth.Undefined (λ same. omega arith))
       ∙ reported_later i j (omega arith)
 
   -- the others are this step's
@@ -75,24 +74,24 @@ module _ (m : Monitor) (s : Taken) where
   unfolding reported_to
   reported_first zero j fits h = absurd (omega arith)
   reported_first (suc i) j fits h =
-      let new : TruthSlot = record { truth = reported_now (told_at s.told i) (truth_at m.reported i) } in
-      let none : TruthSlot = record { truth = Truth.Undefined } in
+      let new : Truth = (reported_now (told_at s.told i) (truth_at m.reported i)) in
+      let none : Truth = Truth.Undefined in
       elim (ℕ_discrete j i) [
-        | yes same ↦ rw same (ap (λ (slot : TruthSlot). slot.truth) (get_or-set_same (reported_to m s i) i new none (omega (arith, length_reported i))))
-        | no other ↦ ap (λ (slot : TruthSlot). slot.truth) (get_or-set_other (reported_to m s i) i j new none other) ∙ reported_first i j (omega arith) (omega arith)
+        | yes same ↦ rw same ((get_or-set_same (reported_to m s i) i new none (omega (arith, length_reported i))))
+        | no other ↦ (get_or-set_other (reported_to m s i) i j new none other) ∙ reported_first i j (omega arith) (omega arith)
       ]
 
 -- what a step says of a monitor's imports: its last reported values are these, and of an import that the table has not it says nothing
 pub record Spoken (m : Monitor) (s : Taken) : Type 0 where
-  pub reported : s.reported ≡ list_to limits.imports (λ i. record { truth = reported_now (told_at s.told i) (truth_at m.reported i) })
+  pub reported : s.reported ≡ list_to limits.imports (λ i. (reported_now (told_at s.told i) (truth_at m.reported i)))
   pub silent : (i : ℕ) → m.table.q ≤ i → told_at s.told i ≡ Told.Nothing
 
 -- once all imports are gone through, the last reported values are the step's
 pub reported_all : (m : Monitor) (s : Taken) → Kept m → m.table.q ≤ limits.imports → Spoken m s → reported_to m s m.table.q ≡ s.reported
 reported_all m s shape few spoken =
-    list_is limits.imports (λ i. record { truth = reported_now (told_at s.told i) (truth_at m.reported i) }) (record { truth = Truth.Undefined })
+    list_is limits.imports (λ i. (reported_now (told_at s.told i) (truth_at m.reported i))) Truth.Undefined
     (reported_to m s m.table.q) (length_reported m s m.table.q ∙ shape.reported)
-    (λ i h. λ j. record { truth = each i j })
+    (λ i h. λ j. (each i j))
     ∙ sym spoken.reported
   where
     each : (i : ℕ) → truth_at (reported_to m s m.table.q) i ≡ reported_now (told_at s.told i) (truth_at m.reported i)

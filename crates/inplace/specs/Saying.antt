@@ -14,8 +14,7 @@ use Rattle.bits.specs.Giving.{Gives, gives_value, gives_field, gives_onward, giv
 use Rattle.table.specs.declared.Table.{Table}
 use Rattle.table.specs.Limits.{limits}
 use Rattle.step.specs.declared.Told.{Told}
-use Rattle.step.specs.declared.ToldSlot.{ToldSlot}
-use Rattle.step.specs.declared.TruthSlot.{TruthSlot}
+use Rattle.values.specs.declared.Truth.{Truth}
 use Rattle.step.specs.Steps.{Report, Step, told_by, value_in}
 use Rattle.step.specs.Reader.{read_step, reports}
 use Rattle.step.specs.Taking.{told_at, truth_at, reported_now, told_slots, reported_after, taken_of}
@@ -64,23 +63,23 @@ step_below t earliest s =
 -- the slots say of each import what the reports tell
 told_slot : (rs : List Report) → (i : ℕ) → i < limits.imports → told_at (told_slots rs) i ≡ told_by rs i
 unfolding told_slots
-told_slot rs i h = ap (λ (slot : ToldSlot). slot.told) (get_d_list limits.imports _ i (record { told = Told.Nothing }) h)
+told_slot rs i h = get_d_list limits.imports _ i Told.Nothing h
 
 -- past the slots nothing is told
 told_past : (rs : List Report) (i : ℕ) → limits.imports ≤ i → told_at (told_slots rs) i ≡ Told.Nothing
 unfolding told_slots
 told_past rs i h =
-    ap (λ (slot : ToldSlot). slot.told)
-    (get_or-eq_default (told_slots rs) (record { told = Told.Nothing }) (omega (arith, length_list {A = ToldSlot} limits.imports (λ j. record { told = told_by rs j }))))
+    ap (λ (slot : Told). slot)
+    (get_or-eq_default (told_slots rs) Told.Nothing (omega (arith, length_list {A = Told} limits.imports (λ j. (told_by rs j)))))
 
 -- the last reported values after reports, by what their slots say
-reported_by : (before : List TruthSlot) (rs : List Report)
-    → reported_after before rs ≡ list_to limits.imports (λ i. record { truth = reported_now (told_at (told_slots rs) i) (truth_at before i) })
+reported_by : (before : List Truth) (rs : List Report)
+    → reported_after before rs ≡ list_to limits.imports (λ i. (reported_now (told_at (told_slots rs) i) (truth_at before i)))
 unfolding reported_after
 reported_by before rs =
-    list_same limits.imports (λ i. record { truth = reported_now (told_by rs i) (truth_at before i) })
-    (λ i. record { truth = reported_now (told_at (told_slots rs) i) (truth_at before i) })
-    (λ i h. λ j. record { truth = reported_now (sym (told_slot rs i h) j) (truth_at before i) })
+    list_same limits.imports (λ i. (reported_now (told_by rs i) (truth_at before i)))
+    (λ i. (reported_now (told_at (told_slots rs) i) (truth_at before i)))
+    (λ i h. λ j. (reported_now (sym (told_slot rs i h) j) (truth_at before i)))
 
 module _ (m : Monitor) where
   -- what a step that was read says of the imports

@@ -16,7 +16,7 @@ use Rattle.bits.specs.Lists.{get_d_list}
 use Rattle.bits.specs.Filled.{list_is}
 use Rattle.table.specs.declared.Table.{Table}
 use Rattle.step.specs.declared.Taken.{Taken}
-use Rattle.step.specs.declared.TruthSlot.{TruthSlot}
+use Rattle.values.specs.declared.Truth.{Truth}
 use Rattle.monitor.specs.declared.Monitor.{Monitor}
 use Rattle.monitor.specs.declared.Stepped.{Stepped}
 use Rattle.monitor.specs.Keeping.{unsound}
@@ -49,7 +49,7 @@ module _ (told : List ℕ) (n q time : ℕ) (state results : List ℕ) (long : l
       stamped
       ∙ ap (λ (l : List ℕ). set l 3 (time + 1))
       (kept.kept m s ready.shape ready.heard words
-      ∙ ap (λ (r : List TruthSlot). state_of (reported_in m r))
+      ∙ ap (λ (r : List Truth). state_of (reported_in m r))
       (ap (reported_to m s) imports ∙ reported_all m s ready.shape sound.within.imports spoken))
       ∙ last_set (reported_in m s.reported) (time + 1)
       ∙ ap (λ (last : ℕ). state_of (record { table = m.table; last = last; reported = s.reported; held = m.held; cells = m.cells }))

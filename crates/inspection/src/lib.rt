@@ -17,7 +17,7 @@ fn entry_lines(s: &[u8], t: Table, k: usize, out: &mut [u8], at: usize) -> usize
     requires { k < 128 }
     ensures { Lays out.old at (lines_at s.now t k) out.new result }
 {
-    let e = t.entries[k].entry;
+    let e = t.entries[k];
     if labels::labelled(e) {
         return rule_lines(s, k, e, reacher::of_entry(t, k), out, at);
     }

@@ -15,7 +15,6 @@ use Rattle.table.specs.Limits.{limits}
 use Rattle.table.specs.Tables.{Shaped, entry_at, initial_of}
 use Rattle.table.specs.Faults.{table_fault, as_unsound, unsound_table}
 use Rattle.table.specs.Sound.{sound_table}
-use Rattle.step.specs.declared.TruthSlot.{TruthSlot}
 use Rattle.step.specs.Steps.{Step}
 use Rattle.step.specs.Taking.{taken_of}
 use Rattle.history.specs.History.{History, Row, row_at, last_report, held_before, held_at, judge, row_to, moments_by, results_of}
@@ -35,9 +34,9 @@ use Rattle.knowing.proofs.Walking.{walk_of, walk_to_lem}
 fresh_recalls : (t : Table) → Shaped t → fresh t ≡ recall_of t []
 unfolding recall_of moments_by last_report held_before initial_of
 fresh_recalls t shaped =
-    let unreported : TruthSlot = record { truth = Truth.Undefined } in
+    let unreported : Truth = Truth.Undefined in
     let reported = list_all limits.imports (λ i. unreported) unreported (λ i l. refl) in
-    let held = list_is limits.variables (λ x. record { number = held_before t [] x }) (record { number = Number.Undefined }) t.variables shaped.variables (λ x l. refl) in
+    let held = list_is limits.variables (λ x. (held_before t [] x)) Number.Undefined t.variables shaped.variables (λ x l. refl) in
     let cells = list_all limits.slots (λ k. left_by (entry_at t k) []) 0 (λ k l. sym (nothing_left (entry_at t k) (carries (entry_at t k)))) in
     λ i. record { table = t; last = 0; reported = reported i; held = held i; cells = cells i }
 

@@ -16,7 +16,6 @@ use Rattle.values.specs.Numbers.{fits_n}
 use Rattle.values.specs.Outcomes.{event_in, number_in, is_done}
 use Rattle.refusals.specs.declared.Refusal.{Refusal}
 use Rattle.refusals.specs.Accepting.{unless_accepted}
-use Rattle.table.specs.declared.VariableSlot.{VariableSlot}
 use Rattle.table.specs.declared.Table.{Table}
 use Rattle.table.specs.Limits.{limits}
 use Rattle.table.specs.Kinds.{Change, operands_of, update_of}
@@ -101,7 +100,7 @@ module _ (t : Table) (shape : Shaped t) (sound : Sound t) where
       by : Dec (x < t.v) → Dec (x < limits.variables) → fits_n (initial_of t x) ≡ true
       by (yes h) slot = unless_accepted (fits_n (initial_of t x)) Refusal.Range (sym (number_said_lem (initial_of t x)) ∙ sound.numbers x h)
       by (no h) (yes slot) = unused_fits t sound.unused x (omega arith) slot
-      by (no h) (no past) = ap (λ (s : VariableSlot). fits_n s.number) (get_or-eq_default t.variables _ (omega (arith, shape.variables)))
+      by (no h) (no past) = ap fits_n (get_or-eq_default t.variables _ (omega (arith, shape.variables)))
 
   -- what earlier steps left in a variable
   pub held_fits : (past : List Moment) → MomentsFit past → (x : ℕ) → fits_n (held_before t past x) ≡ true

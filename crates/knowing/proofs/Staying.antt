@@ -6,7 +6,7 @@ use Rattle.values.specs.Truths.{is_true, is_false}
 use Rattle.values.specs.Numbers.{fits_n}
 use Rattle.values.specs.Outcomes.{event_in}
 use Rattle.bits.specs.Lists.{get_d_list}
-use Rattle.table.specs.declared.VariableSlot.{VariableSlot}
+use Rattle.values.specs.declared.Number.{Number}
 use Rattle.table.specs.declared.Table.{Table}
 use Rattle.table.specs.Limits.{limits}
 use Rattle.table.specs.Tables.{Shaped, entry_at}
@@ -57,7 +57,7 @@ module _ (t : Table) (shape : Shaped t) (sound : Sound t) (h : History) (fits : 
   unfolding recall_of
   held_sound x slot =
       let past = moments_by judge t h in
-      ap (λ (s : VariableSlot). fits_n s.number) (get_d_list limits.variables (λ v. record { number = held_before t past v }) x _ slot)
+      ap fits_n (get_d_list limits.variables (λ v. (held_before t past v)) x _ slot)
       ∙ held_fits t shape sound past (moments_fit t shape sound h fits) x
 
   -- what an entry remembers

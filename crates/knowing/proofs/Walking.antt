@@ -11,13 +11,12 @@ use Rattle.values.specs.Outcomes.{number_in, is_done}
 use Rattle.bits.specs.Bits.{list_to}
 use Rattle.bits.specs.Lists.{get_d_list}
 use Rattle.bits.specs.Reading.{got}
-use Rattle.table.specs.declared.VariableSlot.{VariableSlot}
 use Rattle.table.specs.declared.Table.{Table}
 use Rattle.table.specs.Limits.{limits}
 use Rattle.table.specs.Tables.{entry_at, number_at}
 use Rattle.table.specs.Sound.{Sound}
 use Rattle.step.specs.declared.Taken.{Taken}
-use Rattle.step.specs.declared.TruthSlot.{TruthSlot}
+use Rattle.values.specs.declared.Truth.{Truth}
 use Rattle.step.specs.Steps.{Step, told_by}
 use Rattle.step.specs.Taking.{truth_at, taken_of}
 use Rattle.meaning.specs.Places.{places_of}
@@ -48,7 +47,7 @@ walk_of t h s k =
     let past = moments_by judge t h in
     record {
       results = list_to limits.slots (λ j. record { outcome = row_at (row_of t h s k) j });
-      held = list_to limits.variables (λ x. record { number = held_at t past (row_of t h s t.n) k x });
+      held = list_to limits.variables (λ x. (held_at t past (row_of t h s t.n) k x));
       cells = list_to limits.slots (left_to t (moments_by judge t (s ∷ h)) past k);
     }
 
@@ -91,7 +90,7 @@ module _ (t : Table) (sound : Sound t) (h : History) (s : Step) (end : ℕ) (fit
       ≡ last_value (last_report (s ∷ steps_of (moments_by judge t h)) (places_of (entry_at t k)).imported)
   reported_known =
       let i = (places_of (entry_at t k)).imported in
-      ap (λ (slots : List TruthSlot). truth_at slots i) (reported_next t h s)
+      ap (λ (slots : List Truth). truth_at slots i) (reported_next t h s)
       ∙ truth_known t (s ∷ h) i inside.imported
       ∙ ap (λ (steps : History). last_value (last_report (s ∷ steps) i)) (sym (steps_back judge t h))
 
@@ -104,8 +103,8 @@ module _ (t : Table) (sound : Sound t) (h : History) (s : Step) (end : ℕ) (fit
       let all = row_of t h s t.n in
       let x = (places_of (entry_at t k)).variable in
       let stays = given_stays t sound all (row_of t h s k) x k (omega arith) (row_stays judge t past s k t.n (omega arith)) in
-      ap (λ (slot : VariableSlot). slot.number)
-      (get_d_list limits.variables (λ i. record { number = held_at t past all k i }) x (record { number = Number.Undefined }) inside.variable)
+      ap (λ (slot : Number). slot)
+      (get_d_list limits.variables (λ i. (held_at t past all k i)) x Number.Undefined inside.variable)
       ∙ ap (λ (given : Option Number). get_or given (held_before t past x)) stays
 
   -- and at its cell

@@ -40,8 +40,8 @@ recall_of t h =
     record {
       table = t;
       last = earliest h;
-      reported = list_to limits.imports (λ i. record { truth = last_value (last_report h i) });
-      held = list_to limits.variables (λ v. record { number = held_before t past v });
+      reported = list_to limits.imports (λ i. (last_value (last_report h i)));
+      held = list_to limits.variables (λ v. (held_before t past v));
       cells = list_to limits.slots (λ k. left_by (entry_at t k) past);
     }
 

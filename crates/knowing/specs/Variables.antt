@@ -66,11 +66,11 @@ given_or (some x) b d = refl
 
 -- the variables' slots after one entry: the number given, else what was held
 slots_after : (n : ℕ) (f : ℕ → Number) (done : Bool) (v : ℕ) (number : Number)
-    → held_after done v number (list_to n (λ x. record { number = f x }))
-    ≡ list_to n (λ x. record { number = get_or (cond (done && eqb v x) (some number) none) (f x) })
+    → held_after done v number (list_to n (λ x. (f x)))
+    ≡ list_to n (λ x. (get_or (cond (done && eqb v x) (some number) none) (f x)))
 slots_after n f true v number =
-    list_set n (λ x. record { number = f x }) (λ x. record { number = get_or (cond (eqb v x) (some number) none) (f x) }) v
-    (record { number = number })
+    list_set n (λ x. (f x)) (λ x. (get_or (cond (eqb v x) (some number) none) (f x))) v
+    number
     (λ h. rw (eq-eqb v v refl))
     (λ x h other. rw (ne_eqb v x (λ e. other (sym e))))
 slots_after n f false v number = refl
@@ -101,9 +101,9 @@ module _ (t : Table) (sound : Sound t) (k : ℕ) (below : k < t.n) (row all : Ro
   -- and what all of them do
   pub held_next : (past : List Moment) (n : ℕ)
       → let places = places_of (entry_at t k) in
-      held_after (is_done (row_at all k)) places.variable (number_in (row_at row places.second)) (list_to n (λ x. record { number = held_at t past all k x }))
-      ≡ list_to n (λ x. record { number = held_at t past all (suc k) x })
+      held_after (is_done (row_at all k)) places.variable (number_in (row_at row places.second)) (list_to n (λ x. (held_at t past all k x)))
+      ≡ list_to n (λ x. (held_at t past all (suc k) x))
   held_next past n =
       let places = places_of (entry_at t k) in
       slots_after n (held_at t past all k) (is_done (row_at all k)) places.variable (number_in (row_at row places.second))
-      ∙ ap (λ (f : ℕ → Number). list_to n (λ x. record { number = f x })) (fun_ext (held_now past))
+      ∙ ap (λ (f : ℕ → Number). list_to n (λ x. (f x))) (fun_ext (held_now past))

@@ -6,7 +6,6 @@ use Rattle.std.proofs.Math.Decide.{dec_le}
 use Rattle.std.proofs.lemmas.List.Sums.{count_by_more_yes, count_by_more_no}
 use Rattle.std.proofs.Math.ListN.{get_or-eq_default}
 use Rattle.table.specs.declared.Entry.{Entry}
-use Rattle.table.specs.declared.EntrySlot.{EntrySlot}
 use Rattle.table.specs.declared.Table.{Table}
 use Rattle.table.specs.Limits.{limits}
 use Rattle.table.specs.Kinds.{kind_of, labelled}
@@ -21,7 +20,7 @@ labels_more t k = rw (add-one k) refl
 past_slots : (t : Table) (k : ℕ) → length t.entries ≤ k → labelled (entry_at t k) ≡ labelled (Entry.ImportedCondition 0)
 unfolding entry_at
 past_slots t k h =
-    ap (λ (slot : EntrySlot). labelled slot.entry) (get_or-eq_default t.entries (record { entry = Entry.ImportedCondition 0 }) h)
+    ap labelled (get_or-eq_default t.entries (Entry.ImportedCondition 0) h)
 
 -- so from there on the count stays
 labels_past : (t : Table) (m more : ℕ) → length t.entries ≤ m → labels_before t (m + more) ≡ labels_before t m
@@ -33,11 +32,11 @@ labels_all : (t : Table) (m k : ℕ) → length t.entries ≤ m → m ≤ k → 
 labels_all t m k h late = sym (labels_past t m (k - m) h) ∙ ap (labels_before t) {x = m + (k - m)} {y = k} (omega arith)
 
 -- an entry that has a label, by its slot
-abbrev pub named : EntrySlot → Bool
+abbrev pub named : Entry → Bool
 named slot = labelled slot.entry
 
 -- one slot more
-count_more : (slots : List EntrySlot) (k : ℕ) (d : EntrySlot) → k < length slots → count_by named (take (k + 1) slots) ≡ count_by named (take k slots) + cond (named (get_or slots k d)) 1 0
+count_more : (slots : List Entry) (k : ℕ) (d : Entry) → k < length slots → count_by named (take (k + 1) slots) ≡ count_by named (take k slots) + cond (named (get_or slots k d)) 1 0
 count_more slots k d room = by (named (get_or slots k d)) refl
   where
     by : (b : Bool) → named (get_or slots k d) ≡ b → count_by named (take (k + 1) slots) ≡ count_by named (take k slots) + cond (named (get_or slots k d)) 1 0
@@ -51,7 +50,7 @@ module _ (t : Table) where
   labels_below zero room = refl
   labels_below (suc k) room =
       ap (λ (n : ℕ). count_by named (take n t.entries)) (sym (add-one k))
-      ∙ count_more t.entries k (record { entry = Entry.ImportedCondition 0 }) (omega arith)
+      ∙ count_more t.entries k (Entry.ImportedCondition 0) (omega arith)
       ∙ ap (λ (n : ℕ). n + cond (labelled (entry_at t k)) 1 0) (labels_below k (omega arith))
 
   -- and where k is past the slots, all of them do

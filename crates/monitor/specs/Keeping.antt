@@ -42,7 +42,7 @@ fresh t =
     record {
       table = t;
       last = 0;
-      reported = replicate limits.imports (record { truth = Truth.Undefined });
+      reported = replicate limits.imports Truth.Undefined;
       held = t.variables;
       cells = replicate limits.slots 0;
     }

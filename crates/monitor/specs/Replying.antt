@@ -8,7 +8,7 @@ use Rattle.bits.specs.Reading.{Got, got, refused}
 use Rattle.table.specs.declared.Table.{Table}
 use Rattle.table.specs.Tables.{empty_table}
 use Rattle.table.specs.Faults.{table_fault, unsound_table}
-use Rattle.step.specs.declared.TruthSlot.{TruthSlot}
+use Rattle.values.specs.declared.Truth.{Truth}
 use Rattle.step.specs.declared.Taken.{Taken}
 use Rattle.step.specs.Steps.{Step}
 use Rattle.step.specs.Reader.{read_step}
@@ -41,7 +41,7 @@ module _ (m : Monitor) (s : Taken) (reply : Stepped) where
   reply_refused r answered is = is ∙ sym (ap (λ (a : Answer). step_reply a m s) answered)
 
 -- the time that is taken is that of the step that was read, and 0 where none was
-time_taken : (before : List TruthSlot) (read : Got Step) → ((s : Step) (end : ℕ) → read ≡ got s end → s.time < 2 ^ 47) → (taken_of before read).time < 2 ^ 47
+time_taken : (before : List Truth) (read : Got Step) → ((s : Step) (end : ℕ) → read ≡ got s end → s.time < 2 ^ 47) → (taken_of before read).time < 2 ^ 47
 time_taken before (got s end) fits = fits s end refl
 time_taken before (refused r) fits = omega arith
 

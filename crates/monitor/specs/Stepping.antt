@@ -6,7 +6,6 @@ use Rattle.values.specs.declared.Slot.{Slot}
 use Rattle.values.specs.Outcomes.{number_in, is_done}
 use Rattle.refusals.specs.declared.Refusal.{Refusal}
 use Rattle.refusals.specs.Answers.{Answer}
-use Rattle.table.specs.declared.VariableSlot.{VariableSlot}
 use Rattle.table.specs.Limits.{limits}
 use Rattle.table.specs.Tables.{entry_at, number_at}
 use Rattle.step.specs.declared.Taken.{Taken}
@@ -24,7 +23,7 @@ use Rattle.monitor.specs.Keeping.{cell_at, unsound}
 -- a walk over the entries: the results so far, what the variables hold, and what the entries remember
 pub record Walk : Type 0 where
   pub results : List Slot
-  pub held : List VariableSlot
+  pub held : List Number
   pub cells : List ℕ
 
 -- the result of entry k in the slots
@@ -32,8 +31,8 @@ abbrev pub result_in : List Slot → ℕ → Outcome
 result_in results k = (get_or results k (record { outcome = Outcome.Nothing })).outcome
 
 -- "An update whose event occurs gives the variable that number"
-abbrev pub held_after : Bool → ℕ → Number → List VariableSlot → List VariableSlot
-held_after done v number held = cond done (set held v (record { number = number })) held
+abbrev pub held_after : Bool → ℕ → Number → List Number → List Number
+held_after done v number held = cond done (set held v number) held
 
 -- what entry k looks at besides the results of its operand entries
 unfoldable pub recalled : Monitor → Taken → Walk → ℕ → Givens

@@ -5,7 +5,6 @@ use Rattle.values.specs.declared.Number.{Number}
 use Rattle.values.specs.declared.Outcome.{Outcome}
 use Rattle.values.specs.declared.Slot.{Slot}
 use Rattle.values.specs.Outcomes.{number_in, is_done}
-use Rattle.table.specs.declared.VariableSlot.{VariableSlot}
 use Rattle.table.specs.Limits.{limits}
 use Rattle.table.specs.Tables.{entry_at, number_at}
 use Rattle.step.specs.declared.Taken.{Taken}
@@ -22,7 +21,7 @@ use Rattle.monitor.specs.Laws.{sound_of}
 use Rattle.monitor.specs.Stepping.{result_in, held_after, recalled, walked, walk_to, monitor_after, advanced}
 
 -- how far the walk has come: the entries before k are taken
-pub record Come (m : Monitor) (s : Taken) (results : List Slot) (held : List VariableSlot) (cells : List ℕ) (k : ℕ) : Type 0 where
+pub record Come (m : Monitor) (s : Taken) (results : List Slot) (held : List Number) (cells : List ℕ) (k : ℕ) : Type 0 where
   pub slots : m.table.n ≤ limits.slots
   pub within : k ≤ m.table.n
   pub walk : record { results = results; held = held; cells = cells } ≡ walk_to m s k
@@ -39,10 +38,10 @@ module _ (m : Monitor) (k : ℕ) {p : Places} (placed : p ≡ places_of (entry_a
       let few = slots_enough m good in
       subst Inside (sym placed) (places_inside m.table sound.within k (omega arith) (entry_at m.table k) (sound.operands k below))
 
-  module _ (s : Taken) {results : List Slot} {held : List VariableSlot} {cells : List ℕ}
+  module _ (s : Taken) {results : List Slot} {held : List Number} {cells : List ℕ}
       (walk : record { results = results; held = held; cells = cells } ≡ walk_to m s k) where
     -- one entry more
-    pub entry_taken : {o : Outcome} {cell : ℕ} {after : List VariableSlot}
+    pub entry_taken : {o : Outcome} {cell : ℕ} {after : List Number}
         → o ≡ meaning (entry_at m.table k) (result_in results p.first) (result_in results p.second)
         (givens_from (told_at s.told p.imported) (truth_at s.reported p.imported) (number_at held p.variable) (pos s.time) (suc s.time)
         (cell_at m k) (result_in results p.first) (result_in results p.second))
@@ -52,9 +51,9 @@ module _ (m : Monitor) (k : ℕ) {p : Places} (placed : p ≡ places_of (entry_a
     unfolding walk_to walked recalled
     entry_taken said remembered changed = rw (add-one k, ← walk, changed, said, remembered, placed)
 
-module _ (o y : Outcome) (v : ℕ) (held : List VariableSlot) {after : List VariableSlot} {d : Bool} (done : d ≡ is_done o) where
+module _ (o y : Outcome) (v : ℕ) (held : List Number) {after : List Number} {d : Bool} (done : d ≡ is_done o) where
   -- "An update whose event occurs gives the variable that number"
-  pub held_given : {x : Number} → d ≡ true → x ≡ number_in y → after ≡ set held v (record { number = x }) → after ≡ held_after (is_done o) v (number_in y) held
+  pub held_given : {x : Number} → d ≡ true → x ≡ number_in y → after ≡ set held v x → after ≡ held_after (is_done o) v (number_in y) held
   held_given occurs number given = rw (← done, occurs, ← number) given
 
   -- and nothing else changes a variable
@@ -62,7 +61,7 @@ module _ (o y : Outcome) (v : ℕ) (held : List VariableSlot) {after : List Vari
   held_left none left = rw (← done, none) left
 
 -- all entries are taken: the step's results, and the monitor after it
-pub all_taken : (m : Monitor) (s : Taken) {results : List Slot} {held : List VariableSlot} {cells : List ℕ} (k : ℕ)
+pub all_taken : (m : Monitor) (s : Taken) {results : List Slot} {held : List Number} {cells : List ℕ} (k : ℕ)
     → record { results = results; held = held; cells = cells } ≡ walk_to m s k → k ≤ m.table.n → m.table.n ≤ k
     → record {
       answer = Ok tt;

@@ -9,7 +9,8 @@ ghost use Rattle.monitor.specs.Keeping.{kept_fault, unsound};
 
 use crate::Monitor;
 use refusals::Refusal;
-use table::{Table, VariableSlot};
+use table::Table;
+use values::Number;
 
 // "Times are milliseconds, 0 to 2^47-1": a kept time is one more than the time, and 0 where there is none.
 fn kept_fits(kept: u64) -> bool
@@ -19,7 +20,7 @@ fn kept_fits(kept: u64) -> bool
 }
 
 // "a kept number ... out of range": the number that each variable holds.
-fn held_fault(held: &[VariableSlot; Table::VARIABLES]) -> Result<(), Refusal>
+fn held_fault(held: &[Number; Table::VARIABLES]) -> Result<(), Refusal>
     ensures { result ≡ first_fault limits.variables (λ x. number_fault (number_at held.now x)) }
 {
     for slot in held {

@@ -11,9 +11,9 @@ ghost use Rattle.monitor.specs.Stepping.{refused_step, step_reply, step_of};
 use crate::walk::advance;
 pub use kept::unsound;
 use refusals::Refusal;
-use step::{Taken, TruthSlot};
-use table::{Table, VariableSlot};
-use values::{Outcome, Slot, Truth};
+use step::Taken;
+use table::Table;
+use values::{Number, Outcome, Slot, Truth};
 
 // A kept time is one more than the time, and 0 where there is none.
 #[derive(Clone, Copy, Debug, PartialEq, Eq)]
@@ -22,9 +22,9 @@ pub struct Monitor {
     // the kept time of the last accepted step
     pub last: u64,
     // the last reported value of each condition import
-    pub reported: [TruthSlot; Table::IMPORTS],
+    pub reported: [Truth; Table::IMPORTS],
     // the number that each variable holds
-    pub held: [VariableSlot; Table::VARIABLES],
+    pub held: [Number; Table::VARIABLES],
     // what each entry remembers: above 0 for a pair that is open, a start whose condition was true and an end whose
     // condition was false; a kept time for a time of an event
     pub cells: [u64; Table::ENTRIES],
@@ -56,9 +56,7 @@ fn fresh(t: Table) -> Monitor
     Monitor {
         table: t,
         last: 0,
-        reported: [TruthSlot {
-            truth: Truth::Undefined,
-        }; Table::IMPORTS],
+        reported: [Truth::Undefined; Table::IMPORTS],
         held,
         cells: [0; Table::ENTRIES],
     }

@@ -13,7 +13,7 @@ use crate::{Monitor, Stepped};
 use meaning::{Places, places_of, result};
 use memory::{givens, memory_of, remember};
 use step::{Taken, Told};
-use table::{Entry, Table, VariableSlot};
+use table::{Entry, Table};
 use values::{Number, Outcome, Slot, Truth};
 
 // What an entry says at a step, and what it remembers for the next.
@@ -52,7 +52,7 @@ fn places_at(m: &Monitor, k: usize) -> Places
     ensures are { result ≡ places_of (entry_at m.now.table k) }
     ensures inside { Inside result }
 {
-    places_of(m.table.entries[k].entry)
+    places_of(m.table.entries[k])
 }
 
 // "Entries are taken in script order within a step."
@@ -69,12 +69,12 @@ pub(crate) fn advance(m: Monitor, s: Taken) -> Stepped
         let p = places_at(&m, k);
         let y = results[p.second].outcome;
         let judged = judge(
-            m.table.entries[k].entry,
+            m.table.entries[k],
             results[p.first].outcome,
             y,
-            s.told[p.imported].told,
-            s.reported[p.imported].truth,
-            held[p.variable].number,
+            s.told[p.imported],
+            s.reported[p.imported],
+            held[p.variable],
             s.time,
             m.cells[k],
         );
@@ -83,7 +83,7 @@ pub(crate) fn advance(m: Monitor, s: Taken) -> Stepped
         };
         cells[k] = judged.cell;
         if judged.outcome.done() {
-            held[p.variable] = VariableSlot { number: y.number() };
+            held[p.variable] = y.number();
         }
     }
     Stepped {

@@ -142,13 +142,13 @@ read_then_update =
       q = 1;
       v = 1;
       events = true ∷ replicate 47 false;
-      variables = (record { number = Number.Whole (pos 5) }) ∷ replicate 31 (record { number = Number.Undefined });
+      variables = (Number.Whole (pos 5)) ∷ replicate 31 Number.Undefined;
       entries =
-          (record { entry = Entry.Variable 0 })
-          ∷ (record { entry = Entry.ImportedEvent 0 })
-          ∷ (record { entry = Entry.Constant (pos 7) })
-          ∷ (record { entry = Entry.Update 1 0 2 })
-          ∷ replicate 124 (record { entry = Entry.Constant (pos 0) });
+          (Entry.Variable 0)
+          ∷ (Entry.ImportedEvent 0)
+          ∷ (Entry.Constant (pos 7))
+          ∷ (Entry.Update 1 0 2)
+          ∷ replicate 124 (Entry.Constant (pos 0));
     }
 
 -- "every update of that variable, wherever it stands": the read reaches the later update, and with it the event and the constant

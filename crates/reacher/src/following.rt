@@ -91,7 +91,7 @@ pub(crate) fn reached(t: Table, u: Updates, k: usize) -> [bool; Table::ENTRIES]
     // A `while`: the queue grows as it is gone through, so that no range or slice holds what is still to come.
     while head < count {
         let j = order[head] as usize;
-        let parts = apart_of(t.entries[j].entry);
+        let parts = apart_of(t.entries[j]);
         count = add_operands(parts, &mut marks, &mut order, count);
         let link = cut(&mut last, variable_named(parts.first));
         count = add_updates(&u.before, link, &mut marks, &mut order, count);

@@ -51,7 +51,7 @@ pub(crate) fn touched_by(t: Table, marks: &[bool; Table::ENTRIES]) -> Touched
     let mut clock = false;
     for k in 0..t.n {
         if marks[k] {
-            let parts = apart_of(t.entries[k].entry);
+            let parts = apart_of(t.entries[k]);
             mark(&mut imports, import_named(parts.first));
             clock |= is_clock(parts.kind);
         }

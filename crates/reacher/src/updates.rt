@@ -54,7 +54,7 @@ pub(crate) fn linked(t: Table) -> Updates
     let mut last = [0u16; Table::VARIABLES];
     let mut before = [0u16; Table::ENTRIES];
     for k in 0..t.n {
-        let parts = apart_of(t.entries[k].entry);
+        let parts = apart_of(t.entries[k]);
         before[k] = replace(&mut last, variable_named(parts.second), (k + 1) as u16);
     }
     Updates { last, before }

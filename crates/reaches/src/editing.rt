@@ -1,6 +1,6 @@
 // Edits of a table, so that there are tables that no script has.
 use casebook::{byte, number, set, word};
-use table::{Entry, EntrySlot, Table, VariableSlot};
+use table::{Entry, Table};
 use values::Number;
 
 // The entry of a kind and three operands.
@@ -14,21 +14,9 @@ fn edit(t: &mut Table, e: &[u8]) {
     let v = number(e, 2, 8);
     let whole = (v % 9223372036854775808) as i64;
     match byte(e, 0) {
-        b'e' => set(&mut t.entries, slot, EntrySlot { entry: made(e) }),
-        b'k' => set(
-            &mut t.entries,
-            slot,
-            EntrySlot {
-                entry: Entry::Constant(whole),
-            },
-        ),
-        b'x' => set(
-            &mut t.variables,
-            slot,
-            VariableSlot {
-                number: Number::Whole(whole),
-            },
-        ),
+        b'e' => set(&mut t.entries, slot, made(e)),
+        b'k' => set(&mut t.entries, slot, Entry::Constant(whole)),
+        b'x' => set(&mut t.variables, slot, Number::Whole(whole)),
         b'i' => set(&mut t.events, slot, v == 1),
         b'n' => t.n = v as usize,
         b'q' => t.q = v as usize,

@@ -10,7 +10,6 @@ use Rattle.refusals.specs.declared.Refusal.{Refusal}
 use Rattle.bits.specs.Reading.{Got, got, refused, onward}
 use Rattle.table.specs.declared.Sort.{Sort}
 use Rattle.table.specs.declared.Entry.{Entry}
-use Rattle.table.specs.declared.EntrySlot.{EntrySlot}
 use Rattle.table.specs.declared.Table.{Table}
 use Rattle.table.specs.Limits.{limits}
 use Rattle.table.specs.Kinds.{sort_of}
@@ -47,8 +46,8 @@ ruled_start s from t slots =
     }
 
 -- what stands past the slots
-abbrev unused : EntrySlot
-unused = record { entry = Entry.ImportedCondition 0 }
+abbrev unused : Entry
+unused = (Entry.ImportedCondition 0)
 
 -- the answer for an entry, taken apart
 entered_refused : (m : Got Entry) (r : Refusal) → entered_of m ≡ Err r → m ≡ refused r
@@ -86,11 +85,11 @@ module _ {s : List ℕ} {from : ℕ} {t table : Table} {sorts : List Sort} {at k
       rw (here, get_or-set_same sorts k sort Sort.None (omega (arith, so_far.room)))
       (is
       ∙ sort_of_kind_lem e
-      ∙ ap (λ (x : EntrySlot). sort_of x.entry) (sym (get_or-set_same table.entries k (record { entry = e }) unused (omega (arith, so_far.slots))))))
+      ∙ ap sort_of (sym (get_or-set_same table.entries k e unused (omega (arith, so_far.slots))))))
       (λ before.
       get_or-set_other sorts k a sort Sort.None (ne_of_lt before)
       ∙ so_far.known a before
-      ∙ ap (λ (x : EntrySlot). sort_of x.entry) (sym (get_or-set_other table.entries k a (record { entry = e }) unused (ne_of_lt before))))
+      ∙ ap sort_of (sym (get_or-set_other table.entries k a e unused (ne_of_lt before))))
       (eq-or-lt_of_le (le_of_suc-le-suc (rw (add-one k) at h)))
 
   -- one entry more

@@ -6,7 +6,7 @@ ghost use Rattle.reader.specs.Heads.{counts};
 
 use crate::Stage;
 use refusals::Refusal;
-use table::{Table, VariableSlot};
+use table::Table;
 use values::Number;
 
 // "Import count q, 6 bits, 0 to 48. Variable count v, 6 bits, 0 to 32. Four zero bits."
@@ -112,9 +112,7 @@ pub(crate) fn variables(s: &[u8], at: usize, t: Table) -> Result<Stage, Refusal>
         if undefined && number != 0 {
             return Err(Refusal::Initial);
         }
-        table.variables[x] = VariableSlot {
-            number: starting(bit, number),
-        };
+        table.variables[x] = starting(bit, number);
         next += 49;
     }
     Ok(Stage { at: next, table })

@@ -6,7 +6,7 @@ ghost use Rattle.reader.specs.Stages.{reached};
 use crate::Stage;
 use refusals::Refusal;
 use sound::Known;
-use table::{EntrySlot, Sort, Table};
+use table::{Sort, Table};
 
 // "n entries"
 pub(crate) fn rules(s: &[u8], from: usize, t: Table) -> Result<Stage, Refusal>
@@ -26,7 +26,7 @@ pub(crate) fn rules(s: &[u8], from: usize, t: Table) -> Result<Stage, Refusal>
         };
         let (entry, next) = entries::read(s, at, known)?;
         sorts[k] = kinds::sort_of_kind(kinds::apart_of(entry).kind);
-        table.entries[k] = EntrySlot { entry };
+        table.entries[k] = entry;
         at = next;
     }
     Ok(Stage { at, table })

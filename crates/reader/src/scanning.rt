@@ -33,7 +33,7 @@ fn has_label(t: Table, k: usize) -> bool
     requires { t.n ≤ 128 }
     ensures { result ≡ (ltb k t.n && labelled (entry_at t k)) }
 {
-    k < t.n && labels::labelled(t.entries[k].entry)
+    k < t.n && labels::labelled(t.entries[k])
 }
 
 // "30: no such entry, or, for a label, not an alarm or property"

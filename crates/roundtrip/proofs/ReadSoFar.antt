@@ -6,8 +6,6 @@ use Rattle.refusals.specs.declared.Refusal.{Refusal}
 use Rattle.refusals.specs.Numbering.{unless, and_then}
 use Rattle.bits.specs.Bits.{Part, field_at}
 use Rattle.table.specs.declared.Entry.{Entry}
-use Rattle.table.specs.declared.EntrySlot.{EntrySlot}
-use Rattle.table.specs.declared.VariableSlot.{VariableSlot}
 use Rattle.table.specs.declared.Table.{Table}
 use Rattle.table.specs.Limits.{limits}
 use Rattle.table.specs.Kinds.{Operand, entry, imported, variable, constant, operands_of, sort_of, same_sort}
@@ -72,19 +70,19 @@ event_kept t i e j other = get_or-set_other t.events i j e false other
 
 number_set : (t : Table) (x : ℕ) (y : Number) → x < length t.variables → initial_of (with_variable t x y) x ≡ y
 unfolding initial_of
-number_set t x y less = ap (λ (slot : VariableSlot). slot.number) (get_or-set_same t.variables x _ _ less)
+number_set t x y less = (get_or-set_same t.variables x _ _ less)
 
 number_kept : (t : Table) (x : ℕ) (y : Number) (j : ℕ) → j ≢ x → initial_of (with_variable t x y) j ≡ initial_of t j
 unfolding initial_of
-number_kept t x y j other = ap (λ (slot : VariableSlot). slot.number) (get_or-set_other t.variables x j _ _ other)
+number_kept t x y j other = (get_or-set_other t.variables x j _ _ other)
 
 entry_set : (t : Table) (k : ℕ) (e : Entry) → k < length t.entries → entry_at (with_entry t k e) k ≡ e
 unfolding entry_at
-entry_set t k e less = ap (λ (slot : EntrySlot). slot.entry) (get_or-set_same t.entries k _ _ less)
+entry_set t k e less = (get_or-set_same t.entries k _ _ less)
 
 entry_kept : (t : Table) (k : ℕ) (e : Entry) (j : ℕ) → j ≢ k → entry_at (with_entry t k e) j ≡ entry_at t j
 unfolding entry_at
-entry_kept t k e j other = ap (λ (slot : EntrySlot). slot.entry) (get_or-set_other t.entries k j _ _ other)
+entry_kept t k e j other = (get_or-set_other t.entries k j _ _ other)
 
 -- what is set later changes no earlier field
 imports_kept : (t : Table) (i : ℕ) (e : Bool) → first_parts (with_event t i e) i 0 0 ≡ first_parts t i 0 0

@@ -10,8 +10,7 @@ use Rattle.refusals.specs.declared.Refusal.{Refusal}
 use Rattle.bits.specs.Bits.{field_at, padding_at}
 use Rattle.bits.specs.Holding.{width_of_all, Holds}
 use Rattle.table.specs.declared.Table.{Table}
-use Rattle.table.specs.declared.EntrySlot.{EntrySlot}
-use Rattle.table.specs.declared.VariableSlot.{VariableSlot}
+use Rattle.table.specs.declared.Entry.{Entry}
 use Rattle.table.specs.Limits.{limits}
 use Rattle.table.specs.Tables.{Shaped, entry_at, is_event, initial_of}
 use Rattle.table.specs.Faults.{table_fault}
@@ -44,8 +43,8 @@ counted_so_far s n q v at stand =
       shaped = record { entries = refl; events = refl; variables = refl };
       stand = stand;
       no_import = λ j late. alike limits.imports j false;
-      no_number = λ j late. ap (λ (slot : VariableSlot). slot.number) (alike limits.variables j (record { number = Number.Undefined }));
-      no_entry_lem = λ j late slot. ap (λ (slot : EntrySlot). slot.entry) (get_or-replicate limits.slots j _ _ slot);
+      no_number = λ j late. (alike limits.variables j Number.Undefined);
+      no_entry_lem = λ j late slot. (get_or-replicate limits.slots j _ _ slot);
       numbers = λ j none. absurd (omega arith);
       operands = λ j none. absurd (omega arith);
     }

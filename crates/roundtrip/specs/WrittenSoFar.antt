@@ -10,8 +10,6 @@ use Rattle.refusals.specs.Numbering.{unless, and_then}
 use Rattle.table.specs.declared.Sort.{Sort}
 use Rattle.table.specs.declared.Entry.{Entry}
 use Rattle.table.specs.declared.Entry.TheVariants.{ImportedCondition, Defined, Pair, Not, Or, And, Implies, Less, Equal, ImportedEvent, Start, End, Both, Either, When, Constant, Variable, Sum, Difference, Clock, Value, Time, Update, Alarm, Property}
-use Rattle.table.specs.declared.EntrySlot.{EntrySlot}
-use Rattle.table.specs.declared.VariableSlot.{VariableSlot}
 use Rattle.table.specs.declared.Table.{Table}
 use Rattle.table.specs.Limits.{limits}
 use Rattle.table.specs.Kinds.{Operand, entry, imported, variable, constant, operands_of, sort_of, same_sort}
@@ -23,12 +21,12 @@ use Rattle.roundtrip.specs.WrittenSlots.{filled, filled_next, filled_same, fille
 use Rattle.table.specs.Sound.{Within}
 
 -- an unused entry slot
-abbrev pub no_entry : EntrySlot
-no_entry = record { entry = Entry.Constant (pos 0) }
+abbrev pub no_entry : Entry
+no_entry = (Entry.Constant (pos 0))
 
 -- and an unused variable slot
-abbrev pub no_number : VariableSlot
-no_number = record { number = Number.Undefined }
+abbrev pub no_number : Number
+no_number = Number.Undefined
 
 -- the first i imports, x variables and k entries
 abbrev pub so_far : Table → ℕ → ℕ → ℕ → Table
@@ -57,14 +55,14 @@ so_far_variable t shape i x k h = rw (filled_next limits.variables no_number t.v
 pub so_far_entry : (t : Table) → Shaped t → (i x k : ℕ) → k < limits.slots → with_entry (so_far t i x k) k (entry_at t k) ≡ so_far t i x (suc k)
 unfolding entry_at
 so_far_entry t shape i x k h =
-    rw (filled_next limits.slots no_entry t.entries k (record { entry = Entry.ImportedCondition 0 }) shape.entries h)
+    rw (filled_next limits.slots no_entry t.entries k (Entry.ImportedCondition 0) shape.entries h)
 
 -- an entry that was read
 pub so_far_entry_at : (t : Table) → Shaped t → (i x k a : ℕ) → k ≤ limits.slots → a < k → entry_at (so_far t i x k) a ≡ entry_at t a
 unfolding entry_at
 so_far_entry_at t shape i x k a h before =
-    ap (λ (e : EntrySlot). e.entry)
-    (filled_same limits.slots no_entry t.entries k a (record { entry = Entry.ImportedCondition 0 }) (omega (arith, shape.entries)) before)
+    ap (λ (e : Entry). e)
+    (filled_same limits.slots no_entry t.entries k a (Entry.ImportedCondition 0) (omega (arith, shape.entries)) before)
 
 -- an import that was read
 pub so_far_is_event : (t : Table) → Shaped t → (i x k j : ℕ) → i ≤ limits.imports → j < i → is_event (so_far t i x k) j ≡ is_event t j
@@ -168,7 +166,7 @@ so_far_all t shape unused =
     rw (
       filled_all limits.imports false t.events t.q false shape.events slots.events,
       filled_all limits.variables no_number t.variables t.v no_number shape.variables
-          (λ x low high. ap (λ (y : Number). record { number = y }) (slots.variables x low high)),
-      filled_all limits.slots no_entry t.entries t.n (record { entry = Entry.ImportedCondition 0 }) shape.entries
-          (λ k low high. ap (λ (e : Entry). record { entry = e }) (slots.entries k low high)),
+          (λ x low high. ap (λ (y : Number). y) (slots.variables x low high)),
+      filled_all limits.slots no_entry t.entries t.n (Entry.ImportedCondition 0) shape.entries
+          (λ k low high. ap (λ (e : Entry). e) (slots.entries k low high)),
     )

@@ -27,11 +27,11 @@ with_event t i e = record { n = t.n; q = t.q; v = t.v; events = set t.events i e
 
 -- a table with one initial value set
 abbrev pub with_variable : Table → ℕ → Number → Table
-with_variable t x y = record { n = t.n; q = t.q; v = t.v; events = t.events; variables = set t.variables x (record { number = y }); entries = t.entries }
+with_variable t x y = record { n = t.n; q = t.q; v = t.v; events = t.events; variables = set t.variables x y; entries = t.entries }
 
 -- a table with one entry set
 abbrev pub with_entry : Table → ℕ → Entry → Table
-with_entry t k e = record { n = t.n; q = t.q; v = t.v; events = t.events; variables = t.variables; entries = set t.entries k (record { entry = e }) }
+with_entry t k e = record { n = t.n; q = t.q; v = t.v; events = t.events; variables = t.variables; entries = set t.entries k e }
 
 -- "Format number, 8 bits, 1. Entry count n, 8 bits, 1 to 128. Import count q, 6 bits, 0 to 48. Variable count v, 6 bits, 0 to 32. Four zero bits."
 unfoldable pub header : Reading Table

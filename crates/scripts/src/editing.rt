@@ -1,6 +1,6 @@
 // Edits of a table, so that there are tables that no script has.
 use casebook::{byte, number, set, word};
-use table::{EntrySlot, Table, VariableSlot};
+use table::{Entry, Table};
 use values::Number;
 
 // A whole number: a byte that is 1 if it is negative, and eight bytes that hold it, or -1 less it.
@@ -10,25 +10,21 @@ fn whole(e: &[u8]) -> i64 {
 }
 
 // The entry of a kind, three operands and a whole number.
-fn entry(e: &[u8]) -> EntrySlot {
-    EntrySlot {
-        entry: kinds::made(
-            byte(e, 2) as usize,
-            word(e, 3),
-            word(e, 5),
-            word(e, 7),
-            whole(e),
-        ),
-    }
+fn entry(e: &[u8]) -> Entry {
+    kinds::made(
+        byte(e, 2) as usize,
+        word(e, 3),
+        word(e, 5),
+        word(e, 7),
+        whole(e),
+    )
 }
 
 // A whole number, or none where the kind is 0.
-fn variable(e: &[u8]) -> VariableSlot {
-    VariableSlot {
-        number: match byte(e, 2) {
-            0 => Number::Undefined,
-            _ => Number::Whole(whole(e)),
-        },
+fn variable(e: &[u8]) -> Number {
+    match byte(e, 2) {
+        0 => Number::Undefined,
+        _ => Number::Whole(whole(e)),
     }
 }
 

@@ -5,8 +5,8 @@ use Rattle.refusals.specs.declared.Refusal.{Refusal}
 use Rattle.refusals.specs.Answers.{Answer}
 use Rattle.refusals.specs.Numbering.{unless, and_then}
 use Rattle.table.specs.declared.Sort.{Sort}
-use Rattle.table.specs.declared.EntrySlot.{EntrySlot}
-use Rattle.table.specs.declared.VariableSlot.{VariableSlot}
+use Rattle.table.specs.declared.Entry.{Entry}
+use Rattle.values.specs.declared.Number.{Number}
 use Rattle.table.specs.Limits.{limits}
 use Rattle.table.specs.Kinds.{same_sort, operands_of}
 use Rattle.table.specs.Tables.{is_undefined, zero_constant}
@@ -36,11 +36,11 @@ apart_judged sorts events q v k parts =
     (and_then (judged_by sorts events q v k parts.second) (judged_by sorts events q v k parts.third))
 
 -- "unused entry slots are the constant 0"
-abbrev pub zero_slot : EntrySlot → Bool
+abbrev pub zero_slot : Entry → Bool
 zero_slot slot = zero_constant (operands_of slot.entry)
 
 -- "unused variable slots undefined"
-abbrev pub undefined_slot : VariableSlot → Bool
+abbrev pub undefined_slot : Number → Bool
 undefined_slot slot = is_undefined slot.number
 
 -- "n, q or v outside its limits"

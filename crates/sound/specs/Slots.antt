@@ -61,9 +61,9 @@ pub limits_in_turn : (t : Table) → length t.entries ≡ limits.slots → lengt
 unfolding limits_fault unused_slots entry_at is_event initial_of
 limits_in_turn t entries events variables =
     rw (
-      every_slot_lem zero_slot t.n t.entries (record { entry = Entry.ImportedCondition 0 }) limits.slots (omega arith),
+      every_slot_lem zero_slot t.n t.entries (Entry.ImportedCondition 0) limits.slots (omega arith),
       every_slot_lem not t.q t.events false limits.imports (omega arith),
-      every_slot_lem undefined_slot t.v t.variables (record { number = Number.Undefined }) limits.variables (omega arith),
+      every_slot_lem undefined_slot t.v t.variables Number.Undefined limits.variables (omega arith),
     )
     (tested (counts_kept t.n t.q t.v)
     (list_all zero_slot (take (limits.slots - t.n) (drop t.n t.entries)))

@@ -15,15 +15,16 @@ use crate::slots::limits_fault;
 pub use judging::Known;
 use kinds::{apart_of, sort_of_kind};
 use refusals::Refusal;
-use table::{Sort, Table, VariableSlot};
+use table::{Sort, Table};
+use values::Number;
 
 // "variables (13; ...)"
-fn variables_fault(variables: [VariableSlot; Table::VARIABLES], v: usize) -> Result<(), Refusal>
+fn variables_fault(variables: [Number; Table::VARIABLES], v: usize) -> Result<(), Refusal>
     requires { v ≤ limits.variables }
     ensures { result ≡ first_fault v (λ x. number_fault (number_at variables x)) }
 {
     for x in 0..v {
-        if !variables[x].number.in_range() {
+        if !variables[x].in_range() {
             return Err(Refusal::Range);
         }
     }
@@ -37,7 +38,7 @@ fn entries_fault(t: Table) -> Result<(), Refusal>
 {
     let mut sorts = [Sort::None; Table::ENTRIES];
     for k in 0..t.n {
-        let parts = apart_of(t.entries[k].entry);
+        let parts = apart_of(t.entries[k]);
         let known = Known {
             k,
             q: t.q,

@@ -6,7 +6,7 @@ ghost use Rattle.sound.specs.Judged.{counts_kept, undefined_slot, zero_slot};
 
 use crate::judging::unless;
 use refusals::Refusal;
-use table::{Entry, EntrySlot, Table, VariableSlot};
+use table::{Entry, Table};
 use values::Number;
 
 // "entries at most 128, imports at most 48, variables at most 32", and at least one entry.
@@ -18,7 +18,7 @@ fn counts_kept(n: usize, q: usize, v: usize) -> bool
 
 // "unused entry slots are the constant 0"
 #[tactic(auto, unfolding(table::specs::Kinds::operands_of))]
-fn all_zero(entries: &[EntrySlot]) -> bool
+fn all_zero(entries: &[Entry]) -> bool
     ensures { result ≡ list_all zero_slot entries.now }
 {
     entries.iter().all(|slot| slot.entry == Entry::Constant(0))
@@ -32,7 +32,7 @@ fn all_conditions(events: &[bool]) -> bool
 }
 
 // "unused variable slots undefined"
-fn all_undefined(variables: &[VariableSlot]) -> bool
+fn all_undefined(variables: &[Number]) -> bool
     ensures { result ≡ list_all undefined_slot variables.now }
 {
     variables

@@ -13,8 +13,6 @@ use Rattle.bits.specs.Reading.{Got, got, refused, onward}
 use Rattle.table.specs.declared.Table.{Table}
 use Rattle.table.specs.Limits.{limits}
 use Rattle.step.specs.declared.Told.{Told}
-use Rattle.step.specs.declared.ToldSlot.{ToldSlot}
-use Rattle.step.specs.declared.TruthSlot.{TruthSlot}
 use Rattle.step.specs.Steps.{Report, told_by}
 use Rattle.step.specs.Reader.{reports}
 use Rattle.step.specs.Taking.{truth_at, reported_now, told_slots, reported_after, taken_of}
@@ -24,7 +22,7 @@ use Rattle.step.specs.Stages.{after_reports, after_count, closed, closed_accepte
 use Rattle.step.specs.Telling.{told_none, reported_none, told_more, reported_more}
 
 -- of `count` reports `left` are left, from bit `at` on, and the next one's import is `least` or above
-pub record SoFar (t : Table) (count : ℕ) (before : List TruthSlot) (s : List ℕ) (told : List ToldSlot) (reported : List TruthSlot) (at least left : ℕ) : Type 0 where
+pub record SoFar (t : Table) (count : ℕ) (before : List Truth) (s : List ℕ) (told : List Told) (reported : List Truth) (at least left : ℕ) : Type 0 where
   -- those that were heard
   pub heard : List Report
   -- a report takes 55 bits at most
@@ -39,8 +37,8 @@ pub record SoFar (t : Table) (count : ℕ) (before : List TruthSlot) (s : List �
   pub rising : (i : ℕ) → least ≤ i → (others : List Report) → told_by (heard ++ others) i ≡ told_by others i
 
 -- none is heard yet
-pub heard_none : (t : Table) (count : ℕ) (before : List TruthSlot) (s : List ℕ) → length before ≡ limits.imports → {left : ℕ} → left ≡ count
-    → SoFar t count before s (replicate limits.imports (record { told = Told.Nothing })) before 53 0 left
+pub heard_none : (t : Table) (count : ℕ) (before : List Truth) (s : List ℕ) → length before ≡ limits.imports → {left : ℕ} → left ≡ count
+    → SoFar t count before s (replicate limits.imports Told.Nothing) before 53 0 left
 heard_none t count before s full all =
     record {
       heard = [];
@@ -51,7 +49,7 @@ heard_none t count before s full all =
       rising = λ i h others. refl;
     }
 
-module _ {t : Table} {count : ℕ} {before : List TruthSlot} {s : List ℕ} {told : List ToldSlot} {reported : List TruthSlot} {at least left : ℕ}
+module _ {t : Table} {count : ℕ} {before : List Truth} {s : List ℕ} {told : List Told} {reported : List Truth} {at least left : ℕ}
     (sofar : SoFar t count before s told reported at least left) where
   module _ (time : ℕ) (none : left ≤ 0) where
     -- no report is left: the end decides
@@ -71,7 +69,7 @@ module _ {t : Table} {count : ℕ} {before : List TruthSlot} {s : List ℕ} {tol
     end_accepted e =
         ap (taken_of before) on_end
         ∙ closed_accepted time s sofar.heard at before e
-        ∙ ap₂ (λ (x : List ToldSlot) (y : List TruthSlot). record { answer = Ok tt; time = time; told = x; reported = y })
+        ∙ ap₂ (λ (x : List Told) (y : List Truth). record { answer = Ok tt; time = time; told = x; reported = y })
         (sym sofar.tells) (sym sofar.leaves)
 
   module _ (more : 0 < left) where
@@ -89,8 +87,8 @@ module _ {t : Table} {count : ℕ} {before : List TruthSlot} {s : List ℕ} {tol
 
     module _ (r : Report) (next : ℕ) (e : next_report t least s at ≡ got r next) where
       -- one report more
-      pub one_more : SoFar t count before s (set told r.imported (record { told = r.told }))
-          (set reported r.imported (record { truth = reported_now r.told (truth_at before r.imported) })) next (r.imported + 1) (left - 1)
+      pub one_more : SoFar t count before s (set told r.imported r.told)
+          (set reported r.imported (reported_now r.told (truth_at before r.imported))) next (r.imported + 1) (left - 1)
       unfolding told_by
       one_more =
           let is : Rising t least at r next = (next_rising t least s at).told r next e in
@@ -100,9 +98,9 @@ module _ {t : Table} {count : ℕ} {before : List TruthSlot} {s : List ℕ} {tol
             heard = sofar.heard ++ (r ∷ []);
             place = omega (arith, sofar.place);
             rest = on_next ∙ rw (e, add-one r.imported);
-            tells = ap (λ (x : List ToldSlot). set x r.imported (record { told = r.told })) sofar.tells ∙ told_more sofar.heard r first;
+            tells = ap (λ (x : List Told). set x r.imported r.told) sofar.tells ∙ told_more sofar.heard r first;
             leaves =
-                ap (λ (x : List TruthSlot). set x r.imported (record { truth = reported_now r.told (truth_at before r.imported) })) sofar.leaves
+                ap (λ (x : List Truth). set x r.imported (reported_now r.told (truth_at before r.imported))) sofar.leaves
                 ∙ reported_more sofar.heard r first before;
             rising =
                 λ i h others.
@@ -112,11 +110,11 @@ module _ {t : Table} {count : ℕ} {before : List TruthSlot} {s : List ℕ} {tol
           }
 
     module _ {h : Heard Told} (told-is : Reported (λ told. told) (next_report t least s at) h)
-        {told' : List ToldSlot} {reported' : List TruthSlot} {at' least' left' : ℕ}
+        {told' : List Told} {reported' : List Truth} {at' least' left' : ℕ}
         (ends : at' ≡ h.next) (above : least' ≡ h.imported + 1) (fewer : left' ≡ left - 1) where
       -- stored in its slots
-      pub next_stored : {now : Truth} → told' ≡ set told h.imported (record { told = h.told })
-          → reported' ≡ set reported h.imported (record { truth = now }) → now ≡ reported_now h.told (truth_at before h.imported)
+      pub next_stored : {now : Truth} → told' ≡ set told h.imported h.told
+          → reported' ≡ set reported h.imported now → now ≡ reported_now h.told (truth_at before h.imported)
           → SoFar t count before s told' reported' at' least' left'
       next_stored tells leaves is =
           rw (tells, leaves, is, ends, above, fewer, ← told-is.imports, ← told-is.tells) (one_more told-is.report h.next told-is.is)

@@ -8,7 +8,7 @@ use Rattle.refusals.specs.Answers.{Answer}
 use Rattle.bits.specs.Bits.{field_at}
 use Rattle.bits.specs.Reading.{Got, got, refused, answered, onward, onward_onward, ◌>>=◌, Reading, padding, ended}
 use Rattle.table.specs.declared.Table.{Table}
-use Rattle.step.specs.declared.TruthSlot.{TruthSlot}
+use Rattle.values.specs.declared.Truth.{Truth}
 use Rattle.step.specs.declared.Taken.{Taken}
 use Rattle.step.specs.Steps.{Report, Step}
 use Rattle.step.specs.Reader.{reports, read_step}
@@ -29,7 +29,7 @@ abbrev pub after_count : Table → ℕ → ℕ → List ℕ → Got Step
 after_count t time count s = onward (reports t count 0 [] s 53) (after_reports time s)
 
 -- a refusal that was handed back is the step's own
-pub taken_refused : (before : List TruthSlot) (answer : Result Taken Refusal) {whole : Got Step} (r : Refusal) → answer ≡ Err r → whole ≡ refused r
+pub taken_refused : (before : List Truth) (answer : Result Taken Refusal) {whole : Got Step} (r : Refusal) → answer ≡ Err r → whole ≡ refused r
     → taken_from before answer ≡ taken_of before whole
 taken_refused before answer r is stops = rw (is, stops)
 
@@ -38,7 +38,7 @@ unfoldable pub closed : List ℕ → ℕ → Answer
 closed s at = answered (closing s at)
 
 -- a step after a reading that was not refused
-after_accepted : (before : List TruthSlot) (step : Step) (m : Got ℕ) → answered m ≡ Ok tt
+after_accepted : (before : List Truth) (step : Step) (m : Got ℕ) → answered m ≡ Ok tt
     → taken_of before (onward m (λ end last. got step last)) ≡ taken_of before (got step 0)
 after_accepted before step (got end next) e = refl
 after_accepted before step (refused r) e = let z : ◌≡◌ {A = ℕ} 0 1 = cc in absurd (omega arith)
@@ -56,7 +56,7 @@ module _ (time : ℕ) (s : List ℕ) (told : List Report) (at : ℕ) where
       (onward_onward (padding Refusal.StepCut Refusal.StepPadding s at) (λ zeros next. ended Refusal.StepLeftOver s next) (λ end last. got _ last))
 
   -- a step that ends as it should is taken
-  pub closed_accepted : (before : List TruthSlot) → closed s at ≡ Ok tt
+  pub closed_accepted : (before : List Truth) → closed s at ≡ Ok tt
       → taken_of before (after_reports time s told at) ≡ taken_of before (got (record { time = time; reports = told }) 0)
   unfolding closed
   closed_accepted before e = ap (taken_of before) closing_first ∙ after_accepted before _ (closing s at) e

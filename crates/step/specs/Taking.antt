@@ -6,18 +6,16 @@ use Rattle.bits.specs.Bits.{list_to}
 use Rattle.bits.specs.Reading.{Got, got, refused}
 use Rattle.table.specs.Limits.{limits}
 use Rattle.step.specs.declared.Told.{Told}
-use Rattle.step.specs.declared.ToldSlot.{ToldSlot}
-use Rattle.step.specs.declared.TruthSlot.{TruthSlot}
 use Rattle.step.specs.declared.Taken.{Taken}
 use Rattle.step.specs.Steps.{Report, Step, told_by}
 
 -- what was told of an import
-abbrev pub told_at : List ToldSlot → ℕ → Told
-told_at slots i = (get_or slots i (record { told = Told.Nothing })).told
+abbrev pub told_at : List Told → ℕ → Told
+told_at slots i = get_or slots i Told.Nothing
 
 -- the last reported value of an import
-abbrev pub truth_at : List TruthSlot → ℕ → Truth
-truth_at slots i = (get_or slots i (record { truth = Truth.Undefined })).truth
+abbrev pub truth_at : List Truth → ℕ → Truth
+truth_at slots i = get_or slots i Truth.Undefined
 
 -- this step's report of a condition, else what was reported before
 abbrev pub reported_now : Told → Truth → Truth
@@ -26,15 +24,15 @@ reported_now (Told.Condition c) before = c
 reported_now (Told.Event x) before = before
 
 -- what reports tell of each import
-unfoldable pub told_slots : List Report → List ToldSlot
-told_slots reports = list_to limits.imports (λ i. record { told = told_by reports i })
+unfoldable pub told_slots : List Report → List Told
+told_slots reports = list_to limits.imports (λ i. (told_by reports i))
 
 -- the last reported value of each import, after these reports
-unfoldable pub reported_after : List TruthSlot → List Report → List TruthSlot
-reported_after before reports = list_to limits.imports (λ i. record { truth = reported_now (told_by reports i) (truth_at before i) })
+unfoldable pub reported_after : List Truth → List Report → List Truth
+reported_after before reports = list_to limits.imports (λ i. (reported_now (told_by reports i) (truth_at before i)))
 
 -- a step that was read, or the refusal with nothing told and the reported values as they were
-abbrev pub taken_of : List TruthSlot → Got Step → Taken
+abbrev pub taken_of : List Truth → Got Step → Taken
 taken_of before (got s end) =
     record {
       answer = Ok tt;
@@ -46,11 +44,11 @@ taken_of before (refused r) =
     record {
       answer = Err r;
       time = 0;
-      told = replicate limits.imports (record { told = Told.Nothing });
+      told = replicate limits.imports Told.Nothing;
       reported = before;
     }
 
 -- the same of what was taken, or of the refusal
-abbrev pub taken_from : List TruthSlot → Result Taken Refusal → Taken
+abbrev pub taken_from : List Truth → Result Taken Refusal → Taken
 taken_from before (Ok taken) = taken
 taken_from before (Err r) = taken_of before (refused r)

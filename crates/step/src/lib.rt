@@ -22,26 +22,14 @@ pub enum Told {
     Event(Number),
 }
 
-// What a step tells of one import.
-#[derive(Clone, Copy, Debug, PartialEq, Eq)]
-pub struct ToldSlot {
-    pub told: Told,
-}
-
-// The last reported value of one import.
-#[derive(Clone, Copy, Debug, PartialEq, Eq)]
-pub struct TruthSlot {
-    pub truth: Truth,
-}
-
 // A step that was read: its time, what it tells of each import, and the last reported values after it; or the refusal.
 // No Result, for reason (a): of a refusal too the contract of `read` says that nothing is told and the reported values are as they came.
 #[derive(Clone, Copy)]
 pub struct Taken {
     pub answer: Result<(), Refusal>,
     pub time: u64,
-    pub told: [ToldSlot; Table::IMPORTS],
-    pub reported: [TruthSlot; Table::IMPORTS],
+    pub told: [Told; Table::IMPORTS],
+    pub reported: [Truth; Table::IMPORTS],
 }
 
 // A report that was heard: its import, what it tells of it, and the bit after it.

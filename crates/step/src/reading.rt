@@ -6,7 +6,7 @@ ghost use Rattle.step.specs.Taking.{reported_now, taken_of, taken_from};
 ghost use Rattle.step.specs.Hearing.{heard_of, next_report};
 ghost use Rattle.step.specs.Stages.{after_count};
 
-use crate::{Heard, Taken, Told, ToldSlot, TruthSlot, close, import, report_for};
+use crate::{Heard, Taken, Told, close, import, report_for};
 use refusals::Refusal;
 use table::Table;
 use values::Truth;
@@ -48,15 +48,13 @@ fn reports(
     t: Table,
     time: u64,
     count: usize,
-    earlier: [TruthSlot; Table::IMPORTS],
+    earlier: [Truth; Table::IMPORTS],
     s: &[u8],
 ) -> Result<Taken, Refusal>
     requires { count ≤ 63 }
     ensures { taken_from earlier result ≡ taken_of earlier (after_count t time count s.now) }
 {
-    let mut told = [ToldSlot {
-        told: Told::Nothing,
-    }; Table::IMPORTS];
+    let mut told = [Told::Nothing; Table::IMPORTS];
     let mut reported = earlier;
     let mut at: usize = 53;
     let mut least: usize = 0;
@@ -64,10 +62,8 @@ fn reports(
         let report = next_report(s, at, t.q, least, &t.events)?;
         let i = report.imported;
         if i < Table::IMPORTS {
-            told[i] = ToldSlot { told: report.told };
-            reported[i] = TruthSlot {
-                truth: reported_now(report.told, earlier[i].truth),
-            };
+            told[i] = report.told;
+            reported[i] = reported_now(report.told, earlier[i]);
         }
         at = report.next;
         least = i + 1;
@@ -85,7 +81,7 @@ fn reports(
 fn accepted(
     t: Table,
     earliest: u64,
-    reported: [TruthSlot; Table::IMPORTS],
+    reported: [Truth; Table::IMPORTS],
     s: &[u8],
 ) -> Result<Taken, Refusal>
     ensures { taken_from reported result ≡ taken_of reported (read_step t earliest s.now 0) }
@@ -103,7 +99,7 @@ fn accepted(
 }
 
 // A step read from front to back: what it tells, or the first fault; of a refused one nothing is told, and the reported values are as they came.
-pub fn read(t: Table, earliest: u64, reported: [TruthSlot; Table::IMPORTS], s: &[u8]) -> Taken
+pub fn read(t: Table, earliest: u64, reported: [Truth; Table::IMPORTS], s: &[u8]) -> Taken
     ensures { result ≡ taken_of reported (read_step t earliest s.now 0) }
 {
     match accepted(t, earliest, reported, s) {
@@ -111,9 +107,7 @@ pub fn read(t: Table, earliest: u64, reported: [TruthSlot; Table::IMPORTS], s: &
         Err(refusal) => Taken {
             answer: Err(refusal),
             time: 0,
-            told: [ToldSlot {
-                told: Told::Nothing,
-            }; Table::IMPORTS],
+            told: [Told::Nothing; Table::IMPORTS],
             reported,
         },
     }

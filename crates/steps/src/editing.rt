@@ -1,16 +1,14 @@
 // Edits of a monitor, so that there are monitors that no start led to.
 use casebook::{byte, number, set};
 use monitor::Monitor;
-use table::{Entry, EntrySlot, VariableSlot};
+use table::Entry;
 use values::Number;
 
 // a number below the range
 const BELOW: i64 = -140737488355329;
 
-fn held(z: i64) -> VariableSlot {
-    VariableSlot {
-        number: Number::Whole(z),
-    }
+fn held(z: i64) -> Number {
+    Number::Whole(z)
 }
 
 // One edit: a letter, a slot, and a number of 48 bits. The table gets another n, an entry that is a constant, or a "not"
@@ -25,20 +23,8 @@ fn edit(m: &mut Monitor, e: &[u8]) {
         b'h' => set(&mut m.held, slot, held(whole)),
         b'b' => set(&mut m.held, slot, held(BELOW)),
         b'n' => m.table.n = v as usize,
-        b'k' => set(
-            &mut m.table.entries,
-            slot,
-            EntrySlot {
-                entry: Entry::Constant(whole),
-            },
-        ),
-        _ => set(
-            &mut m.table.entries,
-            slot,
-            EntrySlot {
-                entry: Entry::Not((v % 65536) as u16),
-            },
-        ),
+        b'k' => set(&mut m.table.entries, slot, Entry::Constant(whole)),
+        _ => set(&mut m.table.entries, slot, Entry::Not((v % 65536) as u16)),
     }
 }
 

@@ -4,7 +4,6 @@ use Rattle.values.specs.declared.Number.{Number}
 use Rattle.values.specs.Numbers.{eq_z}
 use Rattle.table.specs.declared.Sort.{Sort}
 use Rattle.table.specs.declared.Entry.{Entry}
-use Rattle.table.specs.declared.VariableSlot.{VariableSlot}
 use Rattle.table.specs.declared.Table.{Table}
 use Rattle.table.specs.Limits.{limits}
 use Rattle.table.specs.Kinds.{Operand, entry, imported, variable, constant, operands_of, labelled}
@@ -17,11 +16,11 @@ pub record Shaped (t : Table) : Type 0 where
 
 -- entry k of a table; past the slots, which nothing asks for, it is the first kind
 unfoldable pub entry_at : Table → ℕ → Entry
-entry_at t k = (get_or t.entries k (record { entry = Entry.ImportedCondition 0 })).entry
+entry_at t k = get_or t.entries k (Entry.ImportedCondition 0)
 
 -- the number in a variable's slot; past the slots, undefined
-abbrev pub number_at : List VariableSlot → ℕ → Number
-number_at slots x = (get_or slots x (record { number = Number.Undefined })).number
+abbrev pub number_at : List Number → ℕ → Number
+number_at slots x = get_or slots x Number.Undefined
 
 -- the number that a variable starts with
 unfoldable pub initial_of : Table → ℕ → Number
@@ -68,8 +67,8 @@ empty_table =
       q = 0;
       v = 0;
       events = replicate limits.imports false;
-      variables = replicate limits.variables (record { number = Number.Undefined });
-      entries = replicate limits.slots (record { entry = Entry.Constant (pos 0) });
+      variables = replicate limits.variables Number.Undefined;
+      entries = replicate limits.slots (Entry.Constant (pos 0));
     }
 
 -- how many of the entries before k have a label

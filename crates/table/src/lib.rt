@@ -72,18 +72,6 @@ pub enum Entry {
     Property(u16),
 }
 
-// One entry slot of a table.
-#[derive(Clone, Copy, Debug, PartialEq, Eq)]
-pub struct EntrySlot {
-    pub entry: Entry,
-}
-
-// One variable slot: the number that it starts with, or holds.
-#[derive(Clone, Copy, Debug, PartialEq, Eq)]
-pub struct VariableSlot {
-    pub number: Number,
-}
-
 // A script's rules: n entries, q imports (true: an event) and v variables, each in the first of its slots.
 #[derive(Clone, Copy, Debug, PartialEq, Eq)]
 pub struct Table {
@@ -91,8 +79,8 @@ pub struct Table {
     pub q: usize,
     pub v: usize,
     pub events: [bool; Table::IMPORTS],
-    pub variables: [VariableSlot; Table::VARIABLES],
-    pub entries: [EntrySlot; Table::ENTRIES],
+    pub variables: [Number; Table::VARIABLES],
+    pub entries: [Entry; Table::ENTRIES],
 }
 
 impl Table {
@@ -112,12 +100,8 @@ impl Table {
             q: 0,
             v: 0,
             events: [false; Table::IMPORTS],
-            variables: [VariableSlot {
-                number: Number::Undefined,
-            }; Table::VARIABLES],
-            entries: [EntrySlot {
-                entry: Entry::Constant(0),
-            }; Table::ENTRIES],
+            variables: [Number::Undefined; Table::VARIABLES],
+            entries: [Entry::Constant(0); Table::ENTRIES],
         }
     }
 

@@ -7,9 +7,7 @@ use Rattle.values.specs.declared.Truth.{Truth}
 use Rattle.bits.specs.Window.{stored}
 use Rattle.bits.specs.Filled.{list_is}
 use Rattle.table.specs.declared.Entry.{Entry}
-use Rattle.table.specs.declared.EntrySlot.{EntrySlot}
 use Rattle.table.specs.Tables.{entry_at, number_at, is_event, initial_of}
-use Rattle.step.specs.declared.TruthSlot.{TruthSlot}
 use Rattle.step.specs.Taking.{truth_at}
 use Rattle.monitor.specs.declared.Monitor.{Monitor}
 use Rattle.words.specs.Rows.{Begun, begun_part}
@@ -18,8 +16,8 @@ use Rattle.words.specs.Layout.{Kept, count_word, state_words, word_at, state_of}
 use Rattle.words.specs.Standing.{followed_first, word_entry, word_cell, word_held, word_initial, word_event, word_truth}
 
 -- the entry in a slot; past the slots, which nothing asks for, it is the first kind
-abbrev pub slot_entry : List EntrySlot → ℕ → Entry
-slot_entry slots k = (get_or slots k (record { entry = Entry.ImportedCondition 0 })).entry
+abbrev pub slot_entry : List Entry → ℕ → Entry
+slot_entry slots k = get_or slots k (Entry.ImportedCondition 0)
 
 -- the buffer with the monitor in it; one of another size is not touched
 abbrev pub packed : Monitor → List ℕ → List ℕ
@@ -43,8 +41,8 @@ event_unused m kept j h = ap event_word (sym (get_or-eq_default m.table.events f
 
 truth_unused : (m : Monitor) → Kept m → (j : ℕ) → 48 ≤ j → 1 ≡ truth_word (truth_at m.reported j)
 truth_unused m kept j h =
-    ap (λ (s : TruthSlot). truth_word s.truth)
-    (sym (get_or-eq_default m.reported (record { truth = Truth.Undefined }) (omega (arith, kept.reported))))
+    ap truth_word
+    (sym (get_or-eq_default m.reported Truth.Undefined (omega (arith, kept.reported))))
 
 -- the word that stands in their places
 spare_word : (w i : ℕ) {v : ℕ} → i < 16 → w ≡ v → get_or (replicate 16 w) i 0 ≡ v

@@ -15,8 +15,6 @@ use Rattle.refusals.specs.Accepting.{unless_accepted, accepted_first, accepted_s
 use Rattle.bits.specs.Lists.{length_list}
 use Rattle.bits.specs.Filled.{list_is}
 use Rattle.table.specs.declared.Entry.{Entry}
-use Rattle.table.specs.declared.EntrySlot.{EntrySlot}
-use Rattle.table.specs.declared.VariableSlot.{VariableSlot}
 use Rattle.table.specs.declared.Table.{Table}
 use Rattle.table.specs.Limits.{limits}
 use Rattle.table.specs.Kinds.{operands_of}
@@ -24,7 +22,6 @@ use Rattle.table.specs.Tables.{entry_at, is_event, initial_of, number_at, zero_c
 use Rattle.table.specs.Sound.{Sound}
 use Rattle.sound.specs.Slots.{slot_fails}
 use Rattle.sound.specs.Firsts.{number_said_lem}
-use Rattle.step.specs.declared.TruthSlot.{TruthSlot}
 use Rattle.meaning.specs.Places.{places_of}
 use Rattle.meaning.specs.Inside.{Inside, places_inside}
 use Rattle.kinds.specs.Apart.{constant_of, apart_of}
@@ -92,27 +89,27 @@ module _ (m : Monitor) (kept : Kept m) where
   unfolding reported_in
   reported_again =
       sym
-      (list_is limits.imports _ (record { truth = Truth.Undefined }) m.reported kept.reported
-      (λ i h. ap (λ (c : Truth). record { truth = c }) (sym (ap truth_of_word (truth_there m i (omega arith)) ∙ truth_again _))))
+      (list_is limits.imports _ Truth.Undefined m.reported kept.reported
+      (λ i h. ap (λ (c : Truth). c) (sym (ap truth_of_word (truth_there m i (omega arith)) ∙ truth_again _))))
 
   -- numbers in range come back, wherever they stand
-  numbers_again : (from : ℕ) (slots : List VariableSlot) → length slots ≡ limits.variables
+  numbers_again : (from : ℕ) (slots : List Number) → length slots ≡ limits.variables
       → ((x : ℕ) → x < limits.variables → word_in (state_of m) (from + x) ≡ number_word (number_at slots x))
       → ((x : ℕ) → x < limits.variables → fits_n (number_at slots x) ≡ true)
       → numbers_in (state_of m) from ≡ slots
   unfolding numbers_in
   numbers_again from slots long stand fit =
       sym
-      (list_is limits.variables _ (record { number = Number.Undefined }) slots long
-      (λ x h. ap (λ (n : Number). record { number = n }) (sym (ap number_of_word (stand x h) ∙ number_again (number_at slots x) (fit x h)))))
+      (list_is limits.variables _ Number.Undefined slots long
+      (λ x h. ap (λ (n : Number). n) (sym (ap number_of_word (stand x h) ∙ number_again (number_at slots x) (fit x h)))))
 
   -- the entries of a sound table come back
   entries_again : Sound m.table → entries_in (state_of m) ≡ m.table.entries
   unfolding entries_in entry_at
   entries_again sound =
       sym
-      (list_is limits.slots _ (record { entry = Entry.ImportedCondition 0 }) m.table.entries kept.table.entries
-      (λ k h. ap (λ (e : Entry). record { entry = e }) (sym (ap entry_of_word (entry_there m k h) ∙ slot_again m.table sound k h))))
+      (list_is limits.slots _ (Entry.ImportedCondition 0) m.table.entries kept.table.entries
+      (λ k h. ap (λ (e : Entry). e) (sym (ap entry_of_word (entry_there m k h) ∙ slot_again m.table sound k h))))
 
   -- a sound monitor comes back from its words
   pub monitor_again : unsound m ≡ Ok tt → monitor_in (state_of m) ≡ m
@@ -139,8 +136,8 @@ module _ (m : Monitor) (kept : Kept m) where
       }
 
 -- the monitor in words, of parts that were each read from their place
-pub parts_in : (words : List ℕ) {n q v last : ℕ} {events : List Bool} {variables held : List VariableSlot} {entries : List EntrySlot}
-    {reported : List TruthSlot} {cells : List ℕ}
+pub parts_in : (words : List ℕ) {n q v last : ℕ} {events : List Bool} {variables held : List Number} {entries : List Entry}
+    {reported : List Truth} {cells : List ℕ}
     → n ≡ word_in words 0
     → q ≡ word_in words 1
     → v ≡ word_in words 2

@@ -7,9 +7,7 @@ use Rattle.values.specs.declared.Number.{Number}
 use Rattle.bits.specs.Bits.{list_to}
 use Rattle.bits.specs.Lists.{length_list, get_d_list}
 use Rattle.bits.specs.Filled.{list_is, list_set}
-use Rattle.table.specs.declared.VariableSlot.{VariableSlot}
 use Rattle.table.specs.Tables.{entry_at, is_event, initial_of}
-use Rattle.step.specs.declared.TruthSlot.{TruthSlot}
 use Rattle.step.specs.Taking.{truth_at}
 use Rattle.monitor.specs.declared.Monitor.{Monitor}
 use Rattle.monitor.specs.Keeping.{cell_at, held_in}
@@ -182,13 +180,13 @@ cell_set m kept k c h =
 pub held_set : (m : Monitor) → Kept m → (x : ℕ) (n : Number) → x < 32
     → set (state_of m) (260 + x) (number_word n)
     ≡ state_of
-    (record { table = m.table; last = m.last; reported = m.reported; held = set m.held x (record { number = n }); cells = m.cells })
+    (record { table = m.table; last = m.last; reported = m.reported; held = set m.held x n; cells = m.cells })
 unfolding word_at
 held_set m kept x n h =
-    let slot : VariableSlot = record { number = n } in
-    let none : VariableSlot = record { number = Number.Undefined } in
+    let slot : Number = n in
+    let none : Number = Number.Undefined in
     let m₁ : Monitor = record { table = m.table; last = m.last; reported = m.reported; held = set m.held x slot; cells = m.cells } in
-    let word : VariableSlot → ℕ = λ s. number_word s.number in
+    let word : Number → ℕ = λ s. number_word s in
     stored m m₁ (260 + x) (4 + (128 + (128 + x))) (number_word n) (omega arith)
     (word_held m₁ x h ∙ ap word (get_or-set_same m.held x slot none (omega (arith, kept.held))))
     (except_later 4 _ _ _ (128 + (128 + x))
@@ -201,13 +199,13 @@ held_set m kept x n h =
 pub truth_set : (m : Monitor) → Kept m → (i : ℕ) (c : Truth) → i < 48
     → set (state_of m) (388 + i) (truth_word c)
     ≡ state_of
-    (record { table = m.table; last = m.last; reported = set m.reported i (record { truth = c }); held = m.held; cells = m.cells })
+    (record { table = m.table; last = m.last; reported = set m.reported i c; held = m.held; cells = m.cells })
 unfolding word_at
 truth_set m kept i c h =
-    let slot : TruthSlot = record { truth = c } in
-    let none : TruthSlot = record { truth = Truth.Undefined } in
+    let slot : Truth = c in
+    let none : Truth = Truth.Undefined in
     let m₁ : Monitor = record { table = m.table; last = m.last; reported = set m.reported i slot; held = m.held; cells = m.cells } in
-    let word : TruthSlot → ℕ = λ s. truth_word s.truth in
+    let word : Truth → ℕ = λ s. truth_word s in
     stored m m₁ (388 + i) (4 + (128 + (128 + (32 + (32 + (64 + i)))))) (truth_word c) (omega arith)
     (word_truth m₁ i ∙ ap word (get_or-set_same m.reported i slot none (omega (arith, kept.reported))))
     (except_later 4 _ _ _ (128 + (128 + (32 + (32 + (64 + i)))))

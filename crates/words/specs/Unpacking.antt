@@ -7,10 +7,7 @@ use Rattle.refusals.specs.Answers.{Answer}
 use Rattle.refusals.specs.Numbering.{unless, and_then, first_fault}
 use Rattle.bits.specs.Bits.{list_to}
 use Rattle.table.specs.declared.Entry.{Entry}
-use Rattle.table.specs.declared.EntrySlot.{EntrySlot}
-use Rattle.table.specs.declared.VariableSlot.{VariableSlot}
 use Rattle.table.specs.Limits.{limits}
-use Rattle.step.specs.declared.TruthSlot.{TruthSlot}
 use Rattle.kinds.specs.Apart.{made_of}
 use Rattle.monitor.specs.declared.Monitor.{Monitor}
 use Rattle.monitor.specs.Keeping.{unsound}
@@ -54,12 +51,12 @@ abbrev pub word_in : List ℕ → ℕ → ℕ
 word_in words j = get_or words j 0
 
 -- the slots of 32 variables from a place on
-unfoldable pub numbers_in : List ℕ → ℕ → List VariableSlot
-numbers_in words from = list_to limits.variables (λ x. record { number = number_of_word (word_in words (from + x)) })
+unfoldable pub numbers_in : List ℕ → ℕ → List Number
+numbers_in words from = list_to limits.variables (λ x. (number_of_word (word_in words (from + x))))
 
 -- the 128 entry slots
-unfoldable pub entries_in : List ℕ → List EntrySlot
-entries_in words = list_to limits.slots (λ k. record { entry = entry_of_word (word_in words (4 + k)) })
+unfoldable pub entries_in : List ℕ → List Entry
+entries_in words = list_to limits.slots (λ k. (entry_of_word (word_in words (4 + k))))
 
 -- what each of the 128 entries remembers
 unfoldable pub cells_in : List ℕ → List ℕ
@@ -70,8 +67,8 @@ unfoldable pub events_in : List ℕ → List Bool
 events_in words = list_to limits.imports (λ i. eqb (word_in words (324 + i)) 1)
 
 -- the last reported value of each
-unfoldable pub reported_in : List ℕ → List TruthSlot
-reported_in words = list_to limits.imports (λ i. record { truth = truth_of_word (word_in words (388 + i)) })
+unfoldable pub reported_in : List ℕ → List Truth
+reported_in words = list_to limits.imports (λ i. (truth_of_word (word_in words (388 + i))))
 
 -- the monitor that stands in words, whatever they are
 unfoldable pub monitor_in : List ℕ → Monitor

@@ -7,8 +7,7 @@ ghost use Rattle.words.specs.Unpacking.{whole_of_word, number_of_word, truth_of_
 use kinds::made;
 use monitor::Monitor;
 use std::array;
-use step::TruthSlot;
-use table::{Entry, EntrySlot, Table, VariableSlot};
+use table::{Entry, Table};
 use values::{Number, Truth};
 
 // The word at a place; past the end it is 0.
@@ -113,9 +112,7 @@ fn slots_in<T, const N: usize, F: Fn(u64) -> T>(state: &[u64], from: usize, of_w
 pub fn monitor_in(state: &[u64]) -> Monitor
     ensures { result ≡ monitor_in state.now }
 {
-    let number = |word| VariableSlot {
-        number: number_of(word),
-    };
+    let number = |word| number_of(word);
     Monitor {
         table: Table {
             n: word(state, 0) as usize,
@@ -123,22 +120,10 @@ pub fn monitor_in(state: &[u64]) -> Monitor
             v: word(state, 2) as usize,
             events: slots_in(state, 324, |word| word == 1),
             variables: slots_in(state, 292, number),
-            entries: slots_in(
-                state,
-                4,
-                |word| EntrySlot {
-                    entry: entry_of(word),
-                },
-            ),
+            entries: slots_in(state, 4, |word| entry_of(word)),
         },
         last: word(state, 3),
-        reported: slots_in(
-            state,
-            388,
-            |word| TruthSlot {
-                truth: truth_of(word),
-            },
-        ),
+        reported: slots_in(state, 388, |word| truth_of(word)),
         held: slots_in(state, 260, number),
         cells: slots_in(state, 132, |word| word),
     }

@@ -91,7 +91,7 @@ fn put_variables(dst: &mut [u8], from: usize, t: Table) -> usize
 {
     let mut at = from;
     for x in 0..t.v {
-        at = put_number(dst, at, t.variables[x].number);
+        at = put_number(dst, at, t.variables[x]);
     }
     at
 }
@@ -103,7 +103,7 @@ fn put_entries(dst: &mut [u8], from: usize, t: Table) -> usize
 {
     let mut at = from;
     for k in 0..t.n {
-        at = put_entry(dst, at, t.entries[k].entry);
+        at = put_entry(dst, at, t.entries[k]);
     }
     at
 }

@@ -21,7 +21,7 @@ pub(crate) fn packed_size(t: Table) -> usize
 {
     let mut width = 32 + t.q + t.v * 49;
     for k in 0..t.n {
-        width += entry_width(t.entries[k].entry);
+        width += entry_width(t.entries[k]);
     }
     (width + 7) / 8
 }

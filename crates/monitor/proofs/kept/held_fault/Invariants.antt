@@ -2,12 +2,12 @@
 use Rattle.std.proofs.Common.{◌≡◌, List, ℕ, Ok}
 use Rattle.refusals.specs.Answers.{Answer}
 use Rattle.refusals.specs.Numbering.{first_fault}
-use Rattle.table.specs.declared.VariableSlot.{VariableSlot}
+use Rattle.values.specs.declared.Number.{Number}
 use Rattle.table.specs.Tables.{number_at}
 use Rattle.table.specs.Faults.{number_fault}
 use Rattle.monitor.proofs.kept.held_fault.Given as goal
 
-abbrev pub faultAt : List VariableSlot → ℕ → Answer
+abbrev pub faultAt : List Number → ℕ → Answer
 faultAt held x = number_fault (number_at held x)
 
 abbrev pub invariant-loop-slot : goal.invariant-loop-slot

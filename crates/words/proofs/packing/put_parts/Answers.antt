@@ -5,9 +5,6 @@ use native.Mathlib.Omega.{arith}
 use Rattle.values.specs.declared.Number.{Number}
 use Rattle.values.specs.declared.Truth.{Truth}
 use Rattle.table.specs.declared.Entry.{Entry}
-use Rattle.table.specs.declared.EntrySlot.{EntrySlot}
-use Rattle.table.specs.declared.VariableSlot.{VariableSlot}
-use Rattle.step.specs.declared.TruthSlot.{TruthSlot}
 use Rattle.words.specs.Words.{number_word, truth_word, event_word, entry_word}
 use Rattle.words.specs.Layout.{Kept}
 use Rattle.words.specs.Packing.{parts_put}
@@ -23,11 +20,11 @@ returns c =
       cells = omega arith;
     } in
     parts_put m keeps c.args.state.now c.requires c.put_counts.ensures
-    (c.put.ensures (λ (s : EntrySlot). entry_word s.entry) (record { entry = Entry.ImportedCondition 0 }) (λ x r e. search rules))
+    (c.put.ensures entry_word (Entry.ImportedCondition 0) (λ x r e. search rules))
     (c.put-2.ensures (λ x. x) 0 (λ x r e. search rules))
-    (c.put-3.ensures (λ (s : VariableSlot). number_word s.number) (record { number = Number.Undefined }) (λ x r e. search rules))
-    (c.put-4.ensures (λ (s : VariableSlot). number_word s.number) (record { number = Number.Undefined }) (λ x r e. search rules))
+    (c.put-3.ensures number_word Number.Undefined (λ x r e. search rules))
+    (c.put-4.ensures number_word Number.Undefined (λ x r e. search rules))
     (c.put-5.ensures event_word false (λ x r e. search rules))
     (c.put-6.ensures (λ x. x) 0 (λ x r e. search rules))
-    (c.put-7.ensures (λ (s : TruthSlot). truth_word s.truth) (record { truth = Truth.Undefined }) (λ x r e. search rules))
+    (c.put-7.ensures truth_word Truth.Undefined (λ x r e. search rules))
     (c.put-8.ensures (λ x. x) 0 (λ x r e. search rules))

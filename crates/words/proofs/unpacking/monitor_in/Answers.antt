@@ -2,22 +2,22 @@
 use borrow.Author.Rules.{rules}
 use Prim.Native.Nat.{ℕ}
 use lib.Dec.{eqb}
-use Rattle.table.specs.declared.EntrySlot.{EntrySlot}
-use Rattle.table.specs.declared.VariableSlot.{VariableSlot}
-use Rattle.step.specs.declared.TruthSlot.{TruthSlot}
+use Rattle.table.specs.declared.Entry.{Entry}
+use Rattle.values.specs.declared.Number.{Number}
+use Rattle.values.specs.declared.Truth.{Truth}
 use Rattle.words.specs.Unpacking.{number_of_word, truth_of_word, entry_of_word, numbers_in, entries_in, cells_in, events_in, reported_in}
 use Rattle.words.specs.Restored.{parts_in}
 use Rattle.words.proofs.unpacking.monitor_in.Goals as goal
 
 -- the slots of a word
-abbrev entry_in : ℕ → EntrySlot
-entry_in w = record { entry = entry_of_word w }
+abbrev entry_in : ℕ → Entry
+entry_in w = (entry_of_word w)
 
-abbrev number_in : ℕ → VariableSlot
-number_in w = record { number = number_of_word w }
+abbrev number_in : ℕ → Number
+number_in w = (number_of_word w)
 
-abbrev truth_in : ℕ → TruthSlot
-truth_in w = record { truth = truth_of_word w }
+abbrev truth_in : ℕ → Truth
+truth_in w = (truth_of_word w)
 
 pub returns : goal.returns
 unfolding events_in numbers_in entries_in reported_in cells_in
