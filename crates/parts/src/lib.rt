@@ -19,31 +19,28 @@ pub fn outcome(answer: Result<(), Refusal>) -> u8
 }
 
 // "A label is shown as the part of the script where its text stands; refused (script numbers, then 30), the part is empty."
+// The number is lent: a `Result` would give a refusal no part, and clause `place` says where the empty part stands.
 pub fn label<'a>(s: &'a [u8], k: usize, number: &mut u8) -> &'a [u8]
     ensures text { result.now ≡ text_of s.now (label_of s.now k) }
     ensures place { (result.ref_ptr.0 ≡ s.entry.ref_ptr.0) × (result.ref_ptr.1 ≡ s.entry.ref_ptr.1 + (label_of s.now k).span.from) }
     ensures number { number.new ≡ outcome_number (label_of s.now k).answer }
 {
     let found = reader::find_label(s, k);
-    let answer = found.answer;
-    *number = outcome(answer);
-    let span = found.span;
-    let from = span.from;
-    let end = from + span.size;
+    *number = outcome(found.answer);
+    let from = found.span.from;
+    let end = from + found.span.size;
     &s[from..end]
 }
 
-// The block of labels of a script, as the writer takes it; refused, the part is empty.
+// The block of labels of a script, as the writer takes it; refused, the part is empty. The number is lent, as by `label`: clause `place`.
 pub fn block<'a>(s: &'a [u8], number: &mut u8) -> &'a [u8]
     ensures text { result.now ≡ block_of s.now }
     ensures place { (result.ref_ptr.0 ≡ s.entry.ref_ptr.0) × (result.ref_ptr.1 ≡ s.entry.ref_ptr.1 + (block_span s.now).from) }
     ensures number { number.new ≡ script_number s.now }
 {
     let scan = reader::scan_script(s, 0);
-    let answer = scan.answer;
-    *number = outcome(answer);
-    let span = scan.block;
-    let first = span.from;
-    let last = first + span.size;
+    *number = outcome(scan.answer);
+    let first = scan.block.from;
+    let last = first + scan.block.size;
     &s[first..last]
 }

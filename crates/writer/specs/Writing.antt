@@ -1,7 +1,6 @@
 -- A script written: how long it is, in which order its faults come, and what the destination holds then.
-use Rattle.std.specs.Prelude.{List, ◌++◌, ◌≡◌, refl, ℕ, ◌+◌, ◌*◌, ◌/◌, ◌<◌, ◌≤◌, leb, ltb, length, drop, Ok, Err}
-use Rattle.std.proofs.Common.{sym, ◌∙◌, ap, arith, leb-true, le-leb, length-append, take_at, drop-drop}
-use Rattle.std.proofs.lemmas.Bool.{lt-leb}
+use Rattle.std.specs.Prelude.{List, ◌++◌, ◌≡◌, refl, ℕ, ◌+◌, ◌*◌, ◌/◌, ◌≤◌, leb, ltb, length, drop, Ok, Err}
+use Rattle.std.proofs.Common.{sym, ◌∙◌, ap, arith, leb-true, length-append, take_at, drop-drop}
 use Rattle.std.proofs.Math.Seq.{paste, take-length, drop-append-add}
 use Rattle.refusals.specs.declared.Refusal.{Refusal}
 use Rattle.refusals.specs.Answers.{Answer}
@@ -16,7 +15,6 @@ use Rattle.table.specs.Limits.{limits}
 use Rattle.table.specs.Tables.{labels_before}
 use Rattle.table.specs.Faults.{table_fault}
 use Rattle.script.specs.declared.Span.{Span}
-use Rattle.script.specs.Orders.{table_first, block_next}
 use Rattle.script.specs.Writer.{table_parts, script_bytes, block_fault, writer_fault, write_script, write_bytes}
 use Rattle.labels.specs.Among.{among_reply, labels_to_end, label_after, label_among}
 use Rattle.refusals.specs.Accepting.{accepted_first, accepted_second, unless_accepted}
@@ -43,18 +41,6 @@ script_length t block =
 abbrev pub room_fault : ℕ → ℕ → Answer
 room_fault size room = and_then (unless (leb size limits.script) Refusal.TooLong) (unless (leb size room) Refusal.NoRoom)
 
--- a script over its limit
-pub room_long : (size room : ℕ) → limits.script < size → room_fault size room ≡ Err Refusal.TooLong
-room_long size room long = rw (lt-leb size limits.script long)
-
--- one that the destination has no room for
-pub room_none : (size room : ℕ) → size ≤ limits.script → room < size → room_fault size room ≡ Err Refusal.NoRoom
-room_none size room short none = rw (le-leb size limits.script short, lt-leb size room none)
-
--- and one that it has room for
-pub room_enough : (size room : ℕ) → size ≤ limits.script → size ≤ room → room_fault size room ≡ Ok tt
-room_enough size room short enough = rw (le-leb size limits.script short, le-leb size room enough)
-
 -- the answer of all the labels does not depend on the wanted one
 among_answer : (count wanted : ℕ) (one : Got Span) (all : Got ℕ) → (among_reply (ltb wanted count) one all).answer ≡ answered all
 among_answer count wanted one (got c end) = refl
@@ -73,30 +59,9 @@ unfolding writer_fault
 writer_fault_lem t block room =
     ap (λ (n : ℕ). and_then (table_fault t) (and_then (block_fault t block) (room_fault n room))) (script_length t block)
 
--- the room is the last to be judged
-pub room_last : (t : Table) (block : List ℕ) (room : ℕ) → table_fault t ≡ Ok tt → block_fault t block ≡ Ok tt
-    → writer_fault t block room ≡ room_fault (packed_size t + length block) room
-room_last t block room good fine = writer_fault_lem t block room ∙ rw (good, fine) refl
-
 -- an answer that is the table's, and accepts: the table is within its limits
 pub within_told : {a : Answer} (t : Table) → a ≡ table_fault t → a ≡ Ok tt → Within t
 within_told t is accepted = (sound_table t (sym is ∙ accepted)).within
-
--- one that refuses is the writer's
-pub table_told : {a : Answer} {r : Refusal} (t : Table) (block : List ℕ) (room : ℕ) → a ≡ table_fault t → a ≡ Err r
-    → Err r ≡ writer_fault t block room
-table_told {r = r} t block room is bad = sym (table_first t block room r (sym is ∙ bad))
-
--- and so is one of the block that refuses, where the table is accepted
-pub block_told : {a b : Answer} {r : Refusal} (t : Table) (block : List ℕ) (room : ℕ) → a ≡ table_fault t → a ≡ Ok tt → b ≡ block_fault t block
-    → b ≡ Err r → Err r ≡ writer_fault t block room
-block_told {r = r} t block room is accepted is' bad = sym (block_next t block room r (sym is ∙ accepted) (sym is' ∙ bad))
-
--- where both are accepted, it is the answer to the size
-pub size_told : {a b c : Answer} {packed : ℕ} (t : Table) (block : List ℕ) (room : ℕ) → a ≡ table_fault t → a ≡ Ok tt → b ≡ block_fault t block
-    → b ≡ Ok tt → packed ≡ packed_size t → c ≡ room_fault (packed + length block) room → c ≡ writer_fault t block room
-size_told t block room is accepted is' accepted' packed last =
-    last ∙ ap (λ (n : ℕ). room_fault (n + length block) room) packed ∙ sym (room_last t block room (sym is ∙ accepted) (sym is' ∙ accepted'))
 
 -- what is known of a script that is written
 pub record Writable (t : Table) (block : List ℕ) (room : ℕ) : Type 0 where
