@@ -55,7 +55,7 @@ fn put_header(dst: &mut [u8], t: Table) -> usize
     put_field(dst, at, 4, 0)
 }
 
-// Three loops, not one with a closure that is lent `dst` and calls the field's own function: `for k in 0..t.n { at = put_entry(dst, at, t.entries[k].entry); }` is no longer.
+// Three loops, not one with a closure that is lent `dst` and calls the field's own function: `for k in 0..t.n { at = put_entry(dst, at, t.entries[k]); }` is no longer.
 // "q bits, one for each import: 1 an event, 0 a condition."
 fn put_imports(dst: &mut [u8], from: usize, t: Table) -> usize
     requires { (from ≤ 4096) × (t.q ≤ 48) }
