@@ -22,7 +22,7 @@ pub(crate) fn has_room(len: usize, at: usize, w: usize) -> bool
 }
 
 // The number that the eight bytes from byte `first` on make.
-fn eight(s: &[u8], first: usize) -> u64
+pub(crate) fn eight(s: &[u8], first: usize) -> u64
     requires { first + 8 ≤ length s.now }
     ensures { result ≡ bits_at s.now (8 * first) 64 }
 {
