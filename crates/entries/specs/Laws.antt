@@ -84,7 +84,7 @@ kind_of_made kind h =
     eqb-true (kind_of (made_of kind 0 0 0 (pos 0))) kind
     (not_refuted (eqb (kind_of (made_of kind 0 0 0 (pos 0))) kind) (none_there 25 (λ i. not (eqb (kind_of (made_of i 0 0 0 (pos 0))) i)) tt kind h))
 
-module _ (t : Table) (sorts : List Sort) (k : ℕ) (lent : Sorts t k sorts) where
+module _ (t : Table) (sorts : List ℕ) (k : ℕ) (lent : Sorts t k sorts) where
   -- an operand's place, read and judged by what is lent as it is by the table
   abbrev Alike : Operand → (ℕ → table.Operand) → Type 0
   Alike o named = (s : List ℕ) (at : ℕ) → operand_by sorts t.events t.q t.v k o s at ≡ operand t k named s at
@@ -197,7 +197,7 @@ module _ (t : Table) (sorts : List Sort) (k : ℕ) (lent : Sorts t k sorts) wher
       (kind_of_made kind h) (each_kind (made_of kind 0 0 0 (pos 0)) s at)
 
 -- an entry read by what is lent of a table is the entry that the script's reader reads
-pub entry_by_lem : (t : Table) (sorts : List Sort) (k : ℕ) (s : List ℕ) (at : ℕ) → Sorts t k sorts → entry_by sorts t.events t.q t.v k s at ≡ reader.entry t k s at
+pub entry_by_lem : (t : Table) (sorts : List ℕ) (k : ℕ) (s : List ℕ) (at : ℕ) → Sorts t k sorts → entry_by sorts t.events t.q t.v k s at ≡ reader.entry t k s at
 unfolding entry_by reader.entry
 entry_by_lem t sorts k s at lent =
     onward_same (field Refusal.Cut 5 (λ kind. unless (ltb kind 25) Refusal.Kind) s at) _ _
@@ -205,7 +205,7 @@ entry_by_lem t sorts k s at lent =
     (ltb-true kind 25 (passed_holds (ltb kind 25) Refusal.Kind (read_accepted Refusal.Cut 5 (λ kind. unless (ltb kind 25) Refusal.Kind) s at kind next e))) s next)
 
 -- and so is what is handed back, of a script that isn't too long
-pub entered_by : (t : Table) (sorts : List Sort) (k : ℕ) (s : List ℕ) (at : ℕ) → Sorts t k sorts → length s ≤ limits.script
+pub entered_by : (t : Table) (sorts : List ℕ) (k : ℕ) (s : List ℕ) (at : ℕ) → Sorts t k sorts → length s ≤ limits.script
     → entered sorts t.events t.q t.v k s at ≡ entered_of (reader.entry t k s at)
 unfolding entered
 entered_by t sorts k s at lent short = rw (le-ltb limits.script (length s) short) (ap entered_of (entry_by_lem t sorts k s at lent))

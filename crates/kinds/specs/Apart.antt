@@ -117,6 +117,6 @@ every_kind a b c z =
 unfoldable pub made_of : ℕ → ℕ → ℕ → ℕ → ℤ → Entry
 made_of kind a b c z = get_or (every_kind a b c z) kind Entry.Clock
 
--- the sort of a kind: conditions come first, then events, then numbers
-abbrev pub sort_of_kind : ℕ → Sort
-sort_of_kind kind = cond (ltb kind 9) Sort.Condition (cond (ltb kind 15) Sort.Event (cond (ltb kind 22) Sort.Number Sort.None))
+-- the sort of a kind, as a number: conditions come first, then events, then numbers
+abbrev pub sort_of_kind : ℕ → ℕ
+sort_of_kind kind = cond (ltb kind 9) 1 (cond (ltb kind 15) 2 (cond (ltb kind 22) 3 0))

@@ -4,7 +4,7 @@ use Rattle.std.proofs.Common.{mod-eq_of_lt, lit<}
 use Rattle.std.proofs.Math.ListN.{get_or-eq_default}
 use Rattle.table.specs.declared.Entry.{Entry}
 use Rattle.table.specs.declared.Entry.TheVariants.{ImportedCondition, Defined, Pair, Not, Or, And, Implies, Less, Equal, ImportedEvent, Start, End, Both, Either, When, Constant, Variable, Sum, Difference, Clock, Value, Time, Update, Alarm, Property}
-use Rattle.table.specs.Kinds.{kind_of, operands_of, sort_of}
+use Rattle.table.specs.Kinds.{kind_of, operands_of, sort_of, sort_number}
 use Rattle.table.specs.declared.Sort.{Sort}
 use Rattle.kinds.specs.declared.Operand.{Operand}
 use Rattle.kinds.specs.Apart.{apart_of, named_by, number_of, constant_of, holding, every_kind, made_of, sort_of_kind}
@@ -17,7 +17,7 @@ made_again e =
 -- what is said of each kind below
 each_kind : (e : Entry) →
     (named_by (apart_of e).first ++ (named_by (apart_of e).second ++ named_by (apart_of e).third) ≡ operands_of e)
-    × (sort_of_kind (kind_of e) ≡ sort_of e) × (kind_of e < 25) × (made_again e ≡ e)
+    × (sort_of_kind (kind_of e) ≡ sort_number (sort_of e)) × (kind_of e < 25) × (made_again e ≡ e)
 unfolding apart_of kind_of operands_of sort_of made_of
 each_kind (ImportedCondition i) = (refl, refl, lit< tt, refl)
 each_kind (Defined a) = (refl, refl, lit< tt, refl)
@@ -50,7 +50,7 @@ pub operands_apart : (e : Entry) → named_by (apart_of e).first ++ (named_by (a
 operands_apart e = (each_kind e).0
 
 -- the sort of an entry goes with its kind
-pub sort_of_kind_lem : (e : Entry) → sort_of_kind (kind_of e) ≡ sort_of e
+pub sort_of_kind_lem : (e : Entry) → sort_of_kind (kind_of e) ≡ sort_number (sort_of e)
 sort_of_kind_lem e = (each_kind e).1
 
 -- there are 25 kinds

@@ -26,20 +26,20 @@ pub struct Apart {
     pub third: Operand,
 }
 
-// The sort of a kind: conditions come first, then events, then numbers.
-pub fn sort_of_kind(kind: usize) -> Sort
+// The sort of a kind, as a number: conditions come first, then events, then numbers.
+pub fn sort_of_kind(kind: usize) -> u8
     ensures { result ≡ sort_of_kind kind }
 {
     if kind < 9 {
-        return Sort::Condition;
+        return 1;
     }
     if kind < 15 {
-        return Sort::Event;
+        return 2;
     }
     if kind < 22 {
-        return Sort::Number;
+        return 3;
     }
-    Sort::None
+    0
 }
 
 impl Operand {

@@ -12,7 +12,7 @@ use Rattle.table.specs.declared.Sort.{Sort}
 use Rattle.table.specs.declared.Entry.{Entry}
 use Rattle.table.specs.declared.Table.{Table}
 use Rattle.table.specs.Limits.{limits}
-use Rattle.table.specs.Kinds.{sort_of}
+use Rattle.table.specs.Kinds.{sort_number, sort_of}
 use Rattle.table.specs.Tables.{entry_at}
 use Rattle.script.specs.Reader.{with_entry, entry, entries}
 use Rattle.kinds.specs.Apart.{apart_of, sort_of_kind}
@@ -22,7 +22,7 @@ use Rattle.entries.specs.Entering.{entered_of, entered}
 use Rattle.entries.specs.Laws.{entered_by}
 
 -- k entries of t are read from bit `from` up to bit `at`: the table holds them, and their sorts are at hand
-pub record Ruled (s : List ℕ) (from : ℕ) (t table : Table) (sorts : List Sort) (at k : ℕ) : Type 0 where
+pub record Ruled (s : List ℕ) (from : ℕ) (t table : Table) (sorts : List ℕ) (at k : ℕ) : Type 0 where
   pub some : k ≤ t.n
   -- what is left decides
   pub rest : entries (t.n - k) k table s at ≡ entries t.n 0 t s from
@@ -33,7 +33,7 @@ pub record Ruled (s : List ℕ) (from : ℕ) (t table : Table) (sorts : List Sor
   pub known : Sorts table k sorts
 
 -- no entry yet
-pub ruled_start : (s : List ℕ) (from : ℕ) (t : Table) → length t.entries ≡ limits.slots → Ruled s from t t (replicate limits.slots Sort.None) from 0
+pub ruled_start : (s : List ℕ) (from : ℕ) (t : Table) → length t.entries ≡ limits.slots → Ruled s from t t (replicate limits.slots 0) from 0
 ruled_start s from t slots =
     record {
       some = omega arith;
@@ -41,13 +41,13 @@ ruled_start s from t slots =
       counts = (refl, refl);
       events = refl;
       slots = slots;
-      room = length-replicate {A = Sort} limits.slots Sort.None;
+      room = length-replicate {A = ℕ} limits.slots 0;
       known = λ a none. absurd (omega arith);
     }
 
 -- what stands past the slots
 abbrev unused : Entry
-unused = (Entry.ImportedCondition 0)
+unused = Entry.ImportedCondition 0
 
 -- the answer for an entry, taken apart
 entered_refused : (m : Got Entry) (r : Refusal) → entered_of m ≡ Err r → m ≡ refused r
@@ -58,7 +58,7 @@ entered_entry : (m : Got Entry) (e : Entry) (next : ℕ) → entered_of m ≡ Ok
 entered_entry (got d last) e next h = let same : ◌≡◌ {A = Entry × ℕ} (d, last) (e, next) = cc in ap (λ (p : Entry × ℕ). got p.0 p.1) same
 entered_entry (refused q) e next h = let z : ◌≡◌ {A = ℕ} 0 1 = cc in absurd (omega arith)
 
-module _ {s : List ℕ} {from : ℕ} {t table : Table} {sorts : List Sort} {at k : ℕ} (so_far : Ruled s from t table sorts at k) (more : k < t.n) where
+module _ {s : List ℕ} {from : ℕ} {t table : Table} {sorts : List ℕ} {at k : ℕ} (so_far : Ruled s from t table sorts at k) (more : k < t.n) where
   -- what is left: the next entry, and then the others
   one_left : entries t.n 0 t s from ≡ onward (entry table k s at) (λ e next. entries (t.n - (k + 1)) (k + 1) (with_entry table k e) s next)
   unfolding entries
@@ -77,23 +77,23 @@ module _ {s : List ℕ} {from : ℕ} {t table : Table} {sorts : List Sort} {at k
   ruled_refused short r e = one_left ∙ rw (entered_refused (entry table k s at) r (sym (next_entry short) ∙ e)) refl
 
   -- the sorts with one more
-  sort_known : (e : Entry) (sort : Sort) → sort ≡ sort_of_kind (apart_of e).kind → k < limits.slots → Sorts (with_entry table k e) (k + 1) (set sorts k sort)
+  sort_known : (e : Entry) (sort : ℕ) → sort ≡ sort_of_kind (apart_of e).kind → k < limits.slots → Sorts (with_entry table k e) (k + 1) (set sorts k sort)
   unfolding entry_at apart_of
   sort_known e sort is slot a h =
       ⊎_elim
       (λ here.
-      rw (here, get_or-set_same sorts k sort Sort.None (omega (arith, so_far.room)))
+      rw (here, get_or-set_same sorts k sort 0 (omega (arith, so_far.room)))
       (is
       ∙ sort_of_kind_lem e
-      ∙ ap sort_of (sym (get_or-set_same table.entries k e unused (omega (arith, so_far.slots))))))
+      ∙ ap (λ (x : Entry). sort_number (sort_of x)) (sym (get_or-set_same table.entries k e unused (omega (arith, so_far.slots))))))
       (λ before.
-      get_or-set_other sorts k a sort Sort.None (ne_of_lt before)
+      get_or-set_other sorts k a sort 0 (ne_of_lt before)
       ∙ so_far.known a before
-      ∙ ap sort_of (sym (get_or-set_other table.entries k a e unused (ne_of_lt before))))
+      ∙ ap (λ (x : Entry). sort_number (sort_of x)) (sym (get_or-set_other table.entries k a e unused (ne_of_lt before))))
       (eq-or-lt_of_le (le_of_suc-le-suc (rw (add-one k) at h)))
 
   -- one entry more
-  pub ruled_next : length s ≤ limits.script → k < limits.slots → (e : Entry) (next : ℕ) (sort : Sort)
+  pub ruled_next : length s ≤ limits.script → k < limits.slots → (e : Entry) (next : ℕ) (sort : ℕ)
       → entered sorts t.events t.q t.v k s at ≡ Ok (e, next) → sort ≡ sort_of_kind (apart_of e).kind
       → Ruled s from t (with_entry table k e) (set sorts k sort) next (k + 1)
   ruled_next short slot e next sort read is =
@@ -108,7 +108,7 @@ module _ {s : List ℕ} {from : ℕ} {t table : Table} {sorts : List Sort} {at k
       }
 
 -- all entries
-pub ruled_done : {s : List ℕ} {from : ℕ} {t table : Table} {sorts : List Sort} {at k : ℕ} → Ruled s from t table sorts at k → t.n ≤ k
+pub ruled_done : {s : List ℕ} {from : ℕ} {t table : Table} {sorts : List ℕ} {at k : ℕ} → Ruled s from t table sorts at k → t.n ≤ k
     → entries t.n 0 t s from ≡ got table at
 unfolding entries
 ruled_done {s} {from} {t} {table} {sorts} {at} {k} so_far all = sym so_far.rest ∙ rw (sub-eq-zero_of_le all) refl

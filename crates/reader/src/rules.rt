@@ -6,7 +6,7 @@ ghost use Rattle.reader.specs.Stages.{reached};
 use crate::Stage;
 use refusals::Refusal;
 use sound::Known;
-use table::{Sort, Table};
+use table::Table;
 
 // "n entries"
 pub(crate) fn rules(s: &[u8], from: usize, t: Table) -> Result<Stage, Refusal>
@@ -14,7 +14,7 @@ pub(crate) fn rules(s: &[u8], from: usize, t: Table) -> Result<Stage, Refusal>
     ensures { reached result ≡ entries t.n 0 t s.now from }
 {
     let mut table = t;
-    let mut sorts = [Sort::None; Table::ENTRIES];
+    let mut sorts = [0u8; Table::ENTRIES];
     let mut at = from;
     for k in 0..t.n {
         let known = Known {

@@ -1,5 +1,5 @@
 -- Laws of judged operands: what is lent of a table judges as the table does, and an entry's three operands judged in order give its fault.
-use Rattle.std.specs.Prelude.{Bool, true, false, List, [], ◌∷◌, ◌++◌, ◌≡◌, ℕ, ◌+◌, ◌<◌, ltb, set, length, Ok, Err}
+use Rattle.std.specs.Prelude.{Bool, true, false, List, [], ◌∷◌, ◌++◌, ◌≡◌, ℕ, ◌+◌, ◌<◌, eqb, ltb, set, length, Ok, Err}
 use Rattle.std.proofs.Math.Path.{refl, sym, ap}
 use Rattle.std.proofs.Common.{◌∙◌, arith, get_or-set_same, ltb-true}
 use Rattle.std.proofs.Math.ListN.{get_or}
@@ -11,7 +11,7 @@ use Rattle.refusals.specs.Numbering.{unless, and_then}
 use Rattle.table.specs.declared.Sort.{Sort}
 use Rattle.table.specs.declared.Entry.{Entry}
 use Rattle.table.specs.declared.Table.{Table}
-use Rattle.table.specs.Kinds.{entry, imported, variable, constant, operands_of, sort_of, same_sort}
+use Rattle.table.specs.Kinds.{entry, imported, variable, constant, operands_of, sort_of, sort_number}
 use Rattle.table.specs.Kinds as kinds
 use Rattle.table.specs.Tables.{entry_at, is_event, import_sort}
 use Rattle.table.specs.Faults.{operand_fault, operands_fault}
@@ -21,9 +21,9 @@ use Rattle.kinds.specs.Apart.{apart_of, first_of, named_by, sort_of_kind}
 use Rattle.kinds.specs.Laws.{operands_apart, sort_of_kind_lem}
 use Rattle.sound.specs.Judged.{placed, judged_by, apart_judged}
 
--- the sorts of the entries before k
-abbrev pub Sorts : Table → ℕ → List Sort → Type 0
-Sorts t k sorts = (a : ℕ) → a < k → get_or sorts a Sort.None ≡ sort_of (entry_at t a)
+-- the sorts of the entries before k, as numbers
+abbrev pub Sorts : Table → ℕ → List ℕ → Type 0
+Sorts t k sorts = (a : ℕ) → a < k → get_or sorts a 0 ≡ sort_number (sort_of (entry_at t a))
 
 -- the fault of entry k
 abbrev pub entry_fault : Table → ℕ → Answer
@@ -38,8 +38,8 @@ then_then (Ok _) b c = refl
 then_then (Err r) b c = refl
 
 -- the sort is looked at only where the operand is there
-placed_same : (there : Bool) (m n s : Sort) → (there ≡ true → m ≡ n) → placed there m s ≡ placed there n s
-placed_same true m n s same = ap (λ (j : Sort). unless (same_sort j s) Refusal.Sort) (same refl)
+placed_same : (there : Bool) (m n : ℕ) (s : Sort) → (there ≡ true → m ≡ n) → placed there m s ≡ placed there n s
+placed_same true m n s same = ap (λ (j : ℕ). unless (eqb j (sort_number s)) Refusal.Sort) (same refl)
 placed_same false m n s same = refl
 
 -- the faults of two lists of operands, one after the other
@@ -49,12 +49,12 @@ operands_append t k [] ps = refl
 operands_append t k (o ∷ os) ps =
     ap (and_then (operand_fault t k o)) (operands_append t k os ps) ∙ sym (then_then (operand_fault t k o) (operands_fault t k os) (operands_fault t k ps))
 
-module _ (t : Table) (k : ℕ) (sorts : List Sort) (sorted : Sorts t k sorts) where
+module _ (t : Table) (k : ℕ) (sorts : List ℕ) (sorted : Sorts t k sorts) where
   -- what is lent of a table judges an operand as the table does
   pub judged_by_lem : (o : kinds.Operand) → judged_by sorts t.events t.q t.v k (first_of (o ∷ [])) ≡ operand_fault t k o
   unfolding judged_by operand_fault import_sort is_event
   judged_by_lem (entry s a) =
-      placed_same (ltb a k) (get_or sorts a Sort.None) (sort_of (entry_at t a)) s (λ there. sorted a (ltb-true a k there))
+      placed_same (ltb a k) (get_or sorts a 0) (sort_number (sort_of (entry_at t a))) s (λ there. sorted a (ltb-true a k there))
   judged_by_lem (imported s i) = refl
   judged_by_lem (variable x) = refl
   judged_by_lem (constant z) = refl
@@ -83,9 +83,9 @@ module _ (t : Table) (k : ℕ) (sorts : List Sort) (sorted : Sorts t k sorts) wh
     entry_judged said = sym (said ∙ ap (apart_judged sorts t.events t.q t.v k) is ∙ judged_apart (entry_at t k))
 
     -- and its sort kept
-    pub sorts_more : {s : Sort} → s ≡ sort_of_kind parts.kind → k < length sorts → Sorts t (k + 1) (set sorts k s)
+    pub sorts_more : {s : ℕ} → s ≡ sort_of_kind parts.kind → k < length sorts → Sorts t (k + 1) (set sorts k s)
     unfolding apart_of
     sorts_more {s} said room =
-        below_more (λ a. get_or (set sorts k s) a Sort.None ≡ sort_of (entry_at t a)) k
-        (λ a l. get_or-set_other sorts k a s Sort.None (λ e. omega arith) ∙ sorted a l)
-        (get_or-set_same sorts k s Sort.None room ∙ said ∙ ap (λ (p : Apart). sort_of_kind p.kind) is ∙ sort_of_kind_lem (entry_at t k))
+        below_more (λ a. get_or (set sorts k s) a 0 ≡ sort_number (sort_of (entry_at t a))) k
+        (λ a l. get_or-set_other sorts k a s 0 (λ e. omega arith) ∙ sorted a l)
+        (get_or-set_same sorts k s 0 room ∙ said ∙ ap (λ (p : Apart). sort_of_kind p.kind) is ∙ sort_of_kind_lem (entry_at t k))

@@ -1,8 +1,7 @@
 // An operand judged by what is known of a table: refusals 7, 8 and 13.
 ghost use Rattle.std.specs.Prelude.{◌≡◌, get_or};
 ghost use Rattle.refusals.specs.Numbering.{unless};
-ghost use Rattle.sound.specs.Judged.{apart_judged, judged_by, sort_of_import, placed};
-ghost use Rattle.table.specs.declared.Sort.TheVariants.{None};
+ghost use Rattle.sound.specs.Judged.{apart_judged, judged_by, import_number, placed};
 
 use kinds::{Apart, Operand};
 use refusals::Refusal;
@@ -10,12 +9,13 @@ use table::Sort;
 use values::Number;
 
 // What is known of a table before entry k: its counts, the sorts of the entries before, and which imports are events.
+// Sorts are numbers here (a): `judge` and `entries::read`, which docs/ name, answer for any number, and a `Sort` would ask for one of four.
 #[derive(Clone, Copy)]
 pub struct Known<'a> {
     pub k: usize,
     pub q: usize,
     pub v: usize,
-    pub sorts: &'a [Sort],
+    pub sorts: &'a [u8],
     pub events: &'a [bool],
 }
 
@@ -27,29 +27,29 @@ pub(crate) fn unless(so: bool, r: Refusal) -> Result<(), Refusal>
 }
 
 // "7: operand not an earlier entry ...; 8: operand ... of the wrong sort", 7 before 8, and the same for imports.
-fn placed(there: bool, have: Sort, s: Sort) -> Result<(), Refusal>
+fn placed(there: bool, have: u8, s: Sort) -> Result<(), Refusal>
     ensures { result ≡ placed there have s }
 {
     unless(there, Refusal::Operand)?;
-    unless(have == s, Refusal::Sort)
+    unless(have == u8::from(s), Refusal::Sort)
 }
 
 impl Known<'_> {
-    // The sort of an entry; past the lent sorts there is none.
-    fn sort_of_entry(self, a: usize) -> Sort
-        ensures { result ≡ get_or self.entry.sorts.now a None }
+    // The sort of an entry, as a number; past the lent sorts there is none.
+    fn sort_of_entry(self, a: usize) -> u8
+        ensures { result ≡ get_or self.entry.sorts.now a 0 }
     {
-        self.sorts.get(a).copied().unwrap_or(Sort::None)
+        self.sorts.get(a).copied().unwrap_or(0)
     }
 
-    // The sort of an import; past the lent imports there are conditions.
-    fn sort_of_import(self, i: usize) -> Sort
-        ensures { result ≡ sort_of_import self.entry.events.now i }
+    // The sort of an import, as a number; past the lent imports there are conditions.
+    fn sort_of_import(self, i: usize) -> u8
+        ensures { result ≡ import_number self.entry.events.now i }
     {
         if i < self.events.len() && self.events[i] {
-            Sort::Event
+            u8::from(Sort::Event)
         } else {
-            Sort::Condition
+            u8::from(Sort::Condition)
         }
     }
 

@@ -15,7 +15,7 @@ use crate::slots::limits_fault;
 pub use judging::Known;
 use kinds::{apart_of, sort_of_kind};
 use refusals::Refusal;
-use table::{Sort, Table};
+use table::Table;
 use values::Number;
 
 // "variables (13; ...)"
@@ -31,12 +31,12 @@ fn variables_fault(variables: [Number; Table::VARIABLES], v: usize) -> Result<()
     Ok(())
 }
 
-// "entries in order (7, 8, 13)"; the sorts of the entries passed are kept.
+// "entries in order (7, 8, 13)"; the sorts of the entries passed are kept as numbers.
 fn entries_fault(t: Table) -> Result<(), Refusal>
     requires { t.n ≤ limits.entries }
     ensures { result ≡ first_fault t.n (λ k. operands_fault t k (operands_of (entry_at t k))) }
 {
-    let mut sorts = [Sort::None; Table::ENTRIES];
+    let mut sorts = [0u8; Table::ENTRIES];
     for k in 0..t.n {
         let parts = apart_of(t.entries[k]);
         let known = Known {

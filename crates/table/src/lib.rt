@@ -4,6 +4,7 @@
 mod texts;
 
 ghost use Rattle.std.specs.Prelude.{◌≡◌};
+ghost use Rattle.table.specs.Kinds.{sort_number};
 ghost use Rattle.table.specs.Tables.{Shaped, empty_table};
 
 use values::Number;
@@ -15,6 +16,20 @@ pub enum Sort {
     Condition,
     Event,
     Number,
+}
+
+// The number of a sort.
+impl From<Sort> for u8 {
+    ghost from_gives = { λ s n. n ≡ sort_number s };
+
+    fn from(s: Sort) -> u8 {
+        match s {
+            Sort::None => 0,
+            Sort::Condition => 1,
+            Sort::Event => 2,
+            Sort::Number => 3,
+        }
+    }
 }
 
 // "An entry is one of twenty-five kinds, each with its own operands."

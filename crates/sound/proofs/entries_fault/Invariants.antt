@@ -11,7 +11,7 @@ use Rattle.sound.specs.Laws.{Sorts, entry_fault}
 use Rattle.sound.proofs.entries_fault.Given as goal
 
 -- how far the loop has come
-pub record Come (t : Table) (sorts : List Sort) (k : ℕ) : Type 0 where
+pub record Come (t : Table) (sorts : List ℕ) (k : ℕ) : Type 0 where
   pub room : length sorts ≡ 128
   pub sorted : Sorts t k sorts
   pub none : first_fault k (entry_fault t) ≡ Ok tt
