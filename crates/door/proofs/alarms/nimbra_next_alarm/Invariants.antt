@@ -1,8 +1,6 @@
 -- `door::alarms::nimbra_next_alarm` meets its contract. The loop's invariant: the first place from k on is the first from `from` on.
-use mathlib.Core.Path.{◌≡◌, refl}
-use Prim.Native.Nat.{◌-◌}
-use lib.ListN.{length}
-use Rattle.door.specs.Alarms.{next_alarm, next_here, next_on, next_none}
+use mathlib.Core.Path.{◌≡◌}
+use Rattle.door.specs.Alarms.{next_alarm}
 use Rattle.door.proofs.alarms.nimbra_next_alarm.Given as goal
 
 abbrev pub invariant-loop-k : goal.invariant-loop-k

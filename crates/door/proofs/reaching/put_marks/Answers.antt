@@ -1,8 +1,5 @@
 -- `door::reaching::put_marks` meets its contract. The loop's invariant: the first k marks are laid down.
-use Prim.Native.Nat.{◌-◌}
-use native.Mathlib.Omega.{arith}
-use lib.ListN.{length}
-use Rattle.door.specs.Marking.{Marking, marking_none, marking_more, marking_all}
+use Rattle.door.specs.Marking.{marking_none, marking_more}
 use Rattle.door.proofs.reaching.put_marks.Goals as goal
 
 pub loop-k-init : goal.loop-k-init

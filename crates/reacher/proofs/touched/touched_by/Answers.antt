@@ -1,4 +1,4 @@
--- `reacher::touched::touched_by` meets its contract. The loop's invariant: what the entries before k touch is noted; the measure is how many are left.
+-- `reacher::touched::touched_by` meets its contract. The loop's invariant: what the entries before k touch is noted.
 use Rattle.std.proofs.Common.{◌∙◌}
 use Rattle.table.specs.Tables.{entry_at}
 use Rattle.reacher.specs.Touching.{touching_none, touching_other, touching_marked, touching_all}

@@ -1,5 +1,4 @@
--- `reacher::touched::touched_by` meets its contract. The loop's invariant: what the entries before k touch is noted; the measure is how many are left.
-use Prim.Native.Nat.{◌-◌}
+-- `reacher::touched::touched_by` meets its contract. The loop's invariant: what the entries before k touch is noted.
 use Rattle.reacher.specs.Touching.{Touching}
 use Rattle.reacher.proofs.touched.touched_by.Given as goal
 

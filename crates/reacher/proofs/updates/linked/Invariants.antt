@@ -1,5 +1,4 @@
 -- `reacher::updates::linked` meets its contract. The loop's invariant: the updates before entry k are linked.
-use Prim.Native.Nat.{◌-◌}
 use Rattle.reacher.specs.Linking.{Linking}
 use Rattle.reacher.proofs.updates.linked.Given as goal
 

@@ -1,4 +1,4 @@
--- `replaying::texts::texts_of` meets its contract. The loop's invariant: the texts and sizes of the first k entries are there; the measure is how many are left.
+-- `replaying::texts::texts_of` meets its contract. The loop's invariant: the texts and sizes of the first k entries are there.
 use Rattle.replaying.specs.Texts.{KeptTo}
 use Rattle.replaying.proofs.texts.texts_of.Given as goal
 
