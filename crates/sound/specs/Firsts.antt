@@ -1,14 +1,22 @@
 -- Laws of the first fault: none among the first k, and one at k.
 use Rattle.std.proofs.Math.Logic.{⊎_elim}
-use Rattle.std.specs.Prelude.{◌≡◌, refl, Ok, Err}
+use Rattle.std.specs.Prelude.{Bool, true, false, ◌&&◌, List, ◌≡◌, refl, length, take, Ok, Err}
 use Prim.Native.Nat.{ℕ, zero, suc, ◌+◌, ◌<◌, ◌≤◌}
-use Rattle.std.proofs.Common.{le_antisymm, not-suc-le-zero, eq-or-lt_of_le, le_of_suc-le-suc, add-one}
+use Rattle.std.proofs.Common.{le_antisymm, not-suc-le-zero, eq-or-lt_of_le, le_of_suc-le-suc, add-one, sym, ◌∙◌, ap, ap₂, arith}
+use Rattle.std.specs.List.{list_all}
+use Rattle.std.proofs.lemmas.List.Folds.{list_all_more}
 use Rattle.values.specs.declared.Number.{Number}
 use Rattle.values.specs.Numbers.{fits_n}
 use Rattle.refusals.specs.declared.Refusal.{Refusal}
 use Rattle.refusals.specs.Answers.{Answer}
-use Rattle.refusals.specs.Numbering.{unless, first_fault}
-use Rattle.table.specs.Faults.{number_fault}
+use Rattle.refusals.specs.Numbering.{unless, and_then, first_fault}
+use Rattle.table.specs.declared.Table.{Table}
+use Rattle.table.specs.Tables.{number_at, initial_of}
+use Rattle.table.specs.Limits.{limits}
+use Rattle.table.specs.Sound.{limits_within}
+use Rattle.table.specs.Faults.{number_fault, limits_fault, table_fault}
+use Rattle.sound.specs.Judged.{slot_fits}
+use Rattle.sound.specs.Laws.{entry_fault}
 
 module _ (f : ℕ → Answer) where
   -- one more without fault
@@ -35,3 +43,41 @@ pub number_said_lem : (x : Number) → number_fault x ≡ unless (fits_n x) Refu
 unfolding number_fault
 number_said_lem Number.Undefined = refl
 number_said_lem (Number.Whole z) = refl
+
+-- a test that one of two fails
+both : (a b : Bool) (r : Refusal) → and_then (unless a r) (unless b r) ≡ unless (a && b) r
+both true b r = refl
+both false b r = refl
+
+-- the numbers of the first v variables, tested one by one
+numbers_said : (slots : List Number) (v : ℕ) → v ≤ length slots
+    → first_fault v (λ x. number_fault (number_at slots x)) ≡ unless (list_all slot_fits (take v slots)) Refusal.Range
+unfolding first_fault
+numbers_said slots zero room = refl
+numbers_said slots (suc v) room =
+    ap₂ and_then (numbers_said slots v (omega arith)) (number_said_lem (number_at slots v))
+    ∙ both (list_all slot_fits (take v slots)) (fits_n (number_at slots v)) Refusal.Range
+    ∙ ap (λ (b : Bool). unless b Refusal.Range)
+    (sym (list_all_more slot_fits slots v Number.Undefined (omega arith))
+    ∙ ap (λ (n : ℕ). list_all slot_fits (take n slots)) (add-one v))
+
+-- where 4 is not given, the counts are within the slots
+pub variables_kept : (t : Table) → limits_fault t ≡ Ok tt → t.v ≤ limits.variables
+variables_kept t e = (limits_within t e).0.variables
+
+pub entries_kept : (t : Table) → limits_fault t ≡ Ok tt → t.n ≤ limits.entries
+entries_kept t e = (limits_within t e).0.entries
+
+-- the faults of a table in order, with its variables tested one by one
+pub table_in_turn : (t : Table) → length t.variables ≡ limits.variables
+    → table_fault t ≡ and_then (limits_fault t) (and_then (unless (list_all slot_fits (take t.v t.variables)) Refusal.Range) (first_fault t.n (entry_fault t)))
+unfolding table_fault initial_of
+table_in_turn t slots = by (limits_fault t) refl
+  where
+    by : (a : Answer) → limits_fault t ≡ a
+        → and_then (limits_fault t) (and_then (first_fault t.v (λ x. number_fault (number_at t.variables x))) (first_fault t.n (entry_fault t)))
+        ≡ and_then (limits_fault t) (and_then (unless (list_all slot_fits (take t.v t.variables)) Refusal.Range) (first_fault t.n (entry_fault t)))
+    by (Err r) e = rw e refl
+    by (Ok _) e =
+        let within : t.v ≤ limits.variables = variables_kept t e in
+        rw (numbers_said t.variables t.v (omega arith)) refl

@@ -1,6 +1,6 @@
 -- An operand judged by what is lent of a table: the sorts of its entries as numbers, which imports are events, and its counts.
 use Rattle.std.specs.Prelude.{Bool, false, cond, ◌&&◌, List, ℕ, eqb, leb, ltb, get_or, Ok}
-use Rattle.values.specs.Numbers.{in_range}
+use Rattle.values.specs.Numbers.{in_range, fits_n}
 use Rattle.refusals.specs.declared.Refusal.{Refusal}
 use Rattle.refusals.specs.Answers.{Answer}
 use Rattle.refusals.specs.Numbering.{unless, and_then}
@@ -42,6 +42,10 @@ zero_slot slot = zero_constant (operands_of slot)
 -- "unused variable slots undefined"
 abbrev pub undefined_slot : Number → Bool
 undefined_slot slot = is_undefined slot
+
+-- "13: number outside 48 bits"
+abbrev pub slot_fits : Number → Bool
+slot_fits slot = fits_n slot
 
 -- "n, q or v outside its limits"
 abbrev pub counts_kept : ℕ → ℕ → ℕ → Bool

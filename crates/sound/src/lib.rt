@@ -5,12 +5,15 @@ mod judging;
 mod slots;
 
 ghost use Rattle.std.specs.Prelude.{◌≡◌, ◌≤◌};
+ghost use Rattle.std.specs.List.{list_all};
 ghost use Rattle.refusals.specs.Numbering.{first_fault};
 ghost use Rattle.table.specs.Limits.{limits};
 ghost use Rattle.table.specs.Kinds.{operands_of};
-ghost use Rattle.table.specs.Tables.{entry_at, number_at};
-ghost use Rattle.table.specs.Faults.{number_fault, operands_fault, table_fault};
+ghost use Rattle.table.specs.Tables.{entry_at};
+ghost use Rattle.sound.specs.Judged.{slot_fits};
+ghost use Rattle.table.specs.Faults.{operands_fault, table_fault};
 
+use crate::judging::unless;
 use crate::slots::limits_fault;
 pub use judging::Known;
 use kinds::{apart_of, sort_of_kind};
@@ -19,16 +22,10 @@ use table::Table;
 use values::Number;
 
 // "variables (13; ...)"
-fn variables_fault(variables: [Number; Table::VARIABLES], v: usize) -> Result<(), Refusal>
-    requires { v ≤ limits.variables }
-    ensures { result ≡ first_fault v (λ x. number_fault (number_at variables x)) }
+fn all_fit(variables: &[Number]) -> bool
+    ensures { result ≡ list_all slot_fits variables.now }
 {
-    for x in 0..v {
-        if !variables[x].in_range() {
-            return Err(Refusal::Range);
-        }
-    }
-    Ok(())
+    variables.iter().all(|slot| slot.in_range())
 }
 
 // "entries in order (7, 8, 13)"; the sorts of the entries passed are kept as numbers.
@@ -53,11 +50,11 @@ fn entries_fault(t: Table) -> Result<(), Refusal>
 }
 
 // "it checks 4, then variables (13; ...), entries in order (7, 8, 13)"
-#[tactic(auto, unfolding(table::specs::Faults::table_fault, table::specs::Tables::initial_of))]
+#[tactic(auto, using(crate::specs::Firsts::table_in_turn, crate::specs::Firsts::variables_kept, crate::specs::Firsts::entries_kept))]
 pub fn fault(t: Table) -> Result<(), Refusal>
     ensures { result ≡ table_fault t }
 {
     limits_fault(t)?;
-    variables_fault(t.variables, t.v)?;
+    unless(all_fit(&t.variables[..t.v]), Refusal::Range)?;
     entries_fault(t)
 }
