@@ -1,7 +1,8 @@
 -- Laws of a test at every slot: it is the test of all slots from the number on.
 use Rattle.std.specs.Prelude.{Bool, true, false, not, ◌&&◌, ◌||◌, List, ◌≡◌, refl, ℕ, zero, suc, ◌+◌, ◌-◌, ◌<◌, ◌≤◌, ltb, length, get_or, take, drop}
 use Rattle.std.specs.List.{list_all}
-use Rattle.std.proofs.Common.{sym, ◌∙◌, ap, arith, lt-ltb, le-ltb, length-drop}
+use Rattle.std.proofs.Math.Bool.{and-false}
+use Rattle.std.proofs.Common.{⊎_elim, not-suc-le-zero, eq-or-lt_of_le, le_of_suc-le-suc, sym, ◌∙◌, ap, arith, lt-ltb, le-ltb, length-drop}
 use Rattle.std.proofs.Math.Decide.{dec_lt}
 use Rattle.std.proofs.lemmas.List.{get_or-drop}
 use Rattle.std.proofs.lemmas.List.Folds.{list_all_more}
@@ -40,6 +41,16 @@ module _ {A : Type 0} (p : A → Bool) (from : ℕ) (xs : List A) (d : A) where
   unfolding every_slot
   every_slot_lem zero room = let none : 0 - from ≡ 0 = omega arith in rw none
   every_slot_lem (suc n) room = ap (λ (b : Bool). b && (ltb n from || p (get_or xs n d))) (every_slot_lem n (omega arith)) ∙ sym (some_more n (omega arith))
+
+-- where one slot doesn't pass, the test fails
+pub slot_fails : (from to : ℕ) (p : ℕ → Bool) (k : ℕ) → k < to → from ≤ k → p k ≡ false → every_slot from to p ≡ false
+unfolding every_slot
+slot_fails from zero p k below past bad = absurd (not-suc-le-zero below)
+slot_fails from (suc m) p k below past bad =
+    ⊎_elim
+    (λ e. rw (← e, le-ltb k from past, bad) (and-false (every_slot from k p)))
+    (λ l. rw (slot_fails from m p k l past bad))
+    (eq-or-lt_of_le (le_of_suc-le-suc below))
 
 -- the slots from a count on are tested where the counts are kept
 tested : (counts entries imports variables : Bool)
