@@ -25,7 +25,7 @@ fn reported_now(told: Told, before: Truth) -> Truth
 fn is_event(events: &[bool], i: usize) -> bool
     ensures { result ≡ get_or events.now i false }
 {
-    if i < events.len() { events[i] } else { false }
+    events.get(i).copied().unwrap_or(false)
 }
 
 // The next report, by how many imports there are and which are events.
