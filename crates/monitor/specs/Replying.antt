@@ -31,15 +31,6 @@ module _ (t : Table) (found : Answer) (judged : found ≡ table_fault t) (m : Mo
   unfolding start_on unsound_table
   start_unsound r empty bad none is = rw (sym judged ∙ bad, is, none)
 
-module _ (m : Monitor) (s : Taken) (reply : Stepped) where
-  -- a step that was read is taken
-  pub reply_taken : s.answer ≡ Ok tt → reply ≡ advanced m s → reply ≡ step_reply s.answer m s
-  reply_taken answered is = is ∙ sym (ap (λ (a : Answer). step_reply a m s) answered)
-
-  -- "A refused step returns the monitor unchanged"
-  pub reply_refused : (r : Refusal) → s.answer ≡ Err r → reply ≡ refused_step r m → reply ≡ step_reply s.answer m s
-  reply_refused r answered is = is ∙ sym (ap (λ (a : Answer). step_reply a m s) answered)
-
 -- the time that is taken is that of the step that was read, and 0 where none was
 time_taken : (before : List Truth) (read : Got Step) → ((s : Step) (end : ℕ) → read ≡ got s end → s.time < 2 ^ 47) → (taken_of before read).time < 2 ^ 47
 time_taken before (got s end) fits = fits s end refl
@@ -50,19 +41,22 @@ pub taken_time : (m : Monitor) (bytes : List ℕ) (s : Taken) → s ≡ taken_by
 unfolding taken_by
 taken_time m bytes s read = rw read (time_taken m.reported (read_step m.table m.last bytes 0) (step_time m.table m.last bytes))
 
-module _ (m : Monitor) (found : Answer) (judged : found ≡ unsound m) where
-  -- a monitor that was found without fault has none
-  pub found_sound : found ≡ Ok tt → unsound m ≡ Ok tt
-  found_sound good = sym judged ∙ good
+module _ (m : Monitor) (found : Answer) (judged : found ≡ unsound m) (bytes : List ℕ) (reply : Stepped) where
+  -- "29 before all else in a step"
+  pub step_unsound : (r : Refusal) → found ≡ Err r → reply ≡ refused_step r m → reply ≡ step_of m bytes
+  unfolding step_of
+  step_unsound r bad is = is ∙ sym (ap (λ (a : Answer). sound_step a m bytes) (sym judged ∙ bad))
 
-  module _ (bytes : List ℕ) (reply : Stepped) where
-    -- "29 before all else in a step"
-    pub step_unsound : (r : Refusal) → found ≡ Err r → reply ≡ refused_step r m → reply ≡ step_of m bytes
-    unfolding step_of
-    step_unsound r bad is = is ∙ sym (ap (λ (a : Answer). sound_step a m bytes) (sym judged ∙ bad))
-
+  module _ (good : found ≡ Ok tt) (s : Taken) (read : s ≡ taken_by m bytes) where
     -- a monitor without fault answers by what was read
-    pub step_sound : (s : Taken) → found ≡ Ok tt → s ≡ taken_by m bytes → reply ≡ step_reply s.answer m s → reply ≡ step_of m bytes
+    step_sound : step_reply s.answer m s ≡ step_of m bytes
     unfolding step_of
-    step_sound s good read is =
-        is ∙ ap (λ (taken : Taken). step_reply taken.answer m taken) read ∙ sym (ap (λ (a : Answer). sound_step a m bytes) (found_sound good))
+    step_sound = rw (sym judged ∙ good, read)
+
+    -- a refused step
+    pub step_refused : (r : Refusal) → s.answer ≡ Err r → reply ≡ refused_step r m → reply ≡ step_of m bytes
+    step_refused r answered is = is ∙ ap (λ (a : Answer). step_reply a m s) (sym answered) ∙ step_sound
+
+    -- an accepted one
+    pub step_accepted : s.answer ≡ Ok tt → reply ≡ advanced m s → reply ≡ step_of m bytes
+    step_accepted answered is = is ∙ ap (λ (a : Answer). step_reply a m s) (sym answered) ∙ step_sound

@@ -1,5 +1,5 @@
 -- One step of a monitor, from what it keeps.
-use Rattle.std.specs.Prelude.{Bool, cond, List, ℕ, zero, suc, pos, get_or, set, replicate, Ok, Err}
+use Rattle.std.specs.Prelude.{Bool, cond, List, ℕ, zero, suc, pos, get_or, set, replicate, Result, Ok, Err}
 use Rattle.values.specs.declared.Number.{Number}
 use Rattle.values.specs.declared.Outcome.{Outcome}
 use Rattle.values.specs.declared.Slot.{Slot}
@@ -76,6 +76,11 @@ advanced m s =
 -- "A refused step returns the monitor unchanged and 128 times 'no result'."
 abbrev pub refused_step : Refusal → Monitor → Stepped
 refused_step r m = record { answer = Err r; monitor = m; results = no_results }
+
+-- a step that is taken, or the refusal
+abbrev pub stepped_from : Monitor → Result Stepped Refusal → Stepped
+stepped_from m (Ok stepped) = stepped
+stepped_from m (Err r) = refused_step r m
 
 -- a step that was read is taken; one that was refused changes nothing
 abbrev pub step_reply : Answer → Monitor → Taken → Stepped

@@ -4,14 +4,13 @@
 mod kept;
 mod walk;
 
-ghost use Rattle.std.specs.Prelude.{◌≡◌, ◌<◌, ◌^◌, Ok};
-ghost use Rattle.monitor.specs.Keeping.{unsound, fresh, start_on};
-ghost use Rattle.monitor.specs.Stepping.{refused_step, step_reply, step_of};
+ghost use Rattle.std.specs.Prelude.{◌≡◌};
+ghost use Rattle.monitor.specs.Keeping.{fresh, start_on};
+ghost use Rattle.monitor.specs.Stepping.{stepped_from, step_of};
 
 use crate::walk::advance;
 pub use kept::unsound;
 use refusals::Refusal;
-use step::Taken;
 use table::Table;
 use values::{Number, Outcome, Slot, Truth};
 
@@ -78,36 +77,28 @@ pub fn start(t: Table) -> Started
     }
 }
 
-// "A refused step returns the monitor unchanged and 128 times 'no result'."
-fn refused(r: Refusal, m: Monitor) -> Stepped
-    ensures { result ≡ refused_step r m }
+// A step that is taken: 29 before all else, then what the bytes say, then the entries in order.
+fn accepted(m: Monitor, s: &[u8]) -> Result<Stepped, Refusal>
+    ensures { stepped_from m result ≡ step_of m s.now }
 {
-    Stepped {
-        answer: Err(r),
-        monitor: m,
-        results: [Slot {
-            outcome: Outcome::Nothing,
-        }; Table::ENTRIES],
-    }
+    unsound(m)?;
+    let taken = step::read(m.table, m.last, m.reported, s);
+    taken.answer?;
+    Ok(advance(m, taken))
 }
 
-// A step that was read is taken; one that was refused changes nothing.
-fn reply(m: Monitor, taken: Taken) -> Stepped
-    requires { (unsound m ≡ Ok tt) × (taken.time < 2 ^ 47) }
-    ensures { result ≡ step_reply taken.answer m taken }
-{
-    match taken.answer {
-        Ok(()) => advance(m, taken),
-        Err(r) => refused(r, m),
-    }
-}
-
-// A step: 29 before all else, then what the bytes say, then the entries in order.
+// A step: "a refused step returns the monitor unchanged and 128 times 'no result'".
 pub fn step(m: Monitor, s: &[u8]) -> Stepped
     ensures { result ≡ step_of m s.now }
 {
-    match unsound(m) {
-        Ok(()) => reply(m, step::read(m.table, m.last, m.reported, s)),
-        Err(fault) => refused(fault, m),
+    match accepted(m, s) {
+        Ok(stepped) => stepped,
+        Err(refusal) => Stepped {
+            answer: Err(refusal),
+            monitor: m,
+            results: [Slot {
+                outcome: Outcome::Nothing,
+            }; Table::ENTRIES],
+        },
     }
 }
