@@ -5,7 +5,7 @@ ghost use Rattle.std.specs.Io.KnownBytes.{Consumes, IsAtEnd};
 use std::io;
 use std::io::Read;
 
-// Reads until the room is full or the input ends; how many bytes were put at the start of the room.
+// Reads until the room is full or the input ends (a `while`: a turn reads as many bytes as come, and counts no index); how many bytes were put at the start of the room.
 pub fn read_full<R: Read>(input: &mut R, room: &mut [u8]) -> io::Result<usize>
     ensures long { length room.new ≡ length room.old }
     ensures within { IfOk result (λ n. n ≤ length room.old) }

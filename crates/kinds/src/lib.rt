@@ -17,7 +17,8 @@ pub enum Operand {
     Constant(i64),
 }
 
-// An entry taken apart: the number of its kind, and its operands in order.
+// An entry taken apart: the number of its kind, and its operands in order. A number, for reason (a): "5 bits of kind" is the script's field, and
+// `made`, which docs/ name, answers for any number; the enum of the kinds is `table::Entry`.
 #[derive(Clone, Copy, Debug, PartialEq, Eq)]
 pub struct Apart {
     pub kind: usize,
@@ -26,7 +27,8 @@ pub struct Apart {
     pub third: Operand,
 }
 
-// The sort of a kind, as a number: conditions come first, then events, then numbers.
+// The sort of a kind, as a number: conditions come first, then events, then numbers. Numbers, for reason (a): docs/ name it and what it promises,
+// `sort_of_kind_lem`.
 pub fn sort_of_kind(kind: usize) -> u8
     ensures { result ≡ sort_of_kind kind }
 {

@@ -4,7 +4,7 @@
 use refusals::Refusal;
 use table::Table;
 
-// The marks of a reach; a refused reach has none.
+// The marks of a reach; a refused reach has none. No Result, for reason (a): of a refusal too `ReachReply` says that no mark is set.
 #[derive(Clone, Copy)]
 pub struct Reach {
     pub answer: Result<(), Refusal>,

@@ -14,7 +14,8 @@ pub enum Truth {
     True,
 }
 
-// "A number is undefined or a whole number from -2^47 to 2^47-1."
+// "A number is undefined or a whole number from -2^47 to 2^47-1." An enum of its own, for reason (d): an Option<i64> could have no methods `sum`,
+// `difference`, `less` and `equal`, and its None would not say that a number is undefined.
 #[derive(Clone, Copy, Debug, PartialEq, Eq)]
 pub enum Number {
     Undefined,
@@ -33,7 +34,7 @@ pub enum Outcome {
     Property(Truth),
 }
 
-// "A step's result holds one result per entry slot."
+// "A step's result holds one result per entry slot": a struct around the result, for reason (a): a form that document 01 names.
 #[derive(Clone, Copy, Debug, PartialEq, Eq)]
 pub struct Slot {
     pub outcome: Outcome,
