@@ -18,5 +18,5 @@ pub fn before(t: Table, k: usize) -> usize
     ensures { result ≡ labels_before t k }
 {
     let slots = &t.entries[..k.min(Table::ENTRIES)];
-    slots.iter().filter(|slot| labelled(slot.entry)).count()
+    slots.iter().filter(|slot| labelled(**slot)).count()
 }

@@ -24,7 +24,7 @@ fn held_fault(held: &[Number; Table::VARIABLES]) -> Result<(), Refusal>
     ensures { result ≡ first_fault limits.variables (λ x. number_fault (number_at held.now x)) }
 {
     for slot in held {
-        if !slot.number.in_range() {
+        if !slot.in_range() {
             return Err(Refusal::Range);
         }
     }

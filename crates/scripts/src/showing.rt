@@ -13,7 +13,7 @@ fn imports(rt: &impl Print, t: Table) -> io::Result<()> {
 fn variables(rt: &impl Print, t: Table) -> io::Result<()> {
     rt.print(" | variables")?;
     for slot in t.variables.iter().take(t.v) {
-        print!(rt; " {}", slot.number)?;
+        print!(rt; " {}", slot)?;
     }
     Ok(())
 }
@@ -21,7 +21,7 @@ fn variables(rt: &impl Print, t: Table) -> io::Result<()> {
 fn entries(rt: &impl Print, t: Table) -> io::Result<()> {
     rt.print(" | entries")?;
     for slot in t.entries.iter().take(t.n) {
-        print!(rt; " {};", slot.entry)?;
+        print!(rt; " {};", slot)?;
     }
     Ok(())
 }

@@ -21,7 +21,7 @@ fn counts_kept(n: usize, q: usize, v: usize) -> bool
 fn all_zero(entries: &[Entry]) -> bool
     ensures { result ≡ list_all zero_slot entries.now }
 {
-    entries.iter().all(|slot| slot.entry == Entry::Constant(0))
+    entries.iter().all(|slot| *slot == Entry::Constant(0))
 }
 
 // "unused import slots conditions"
@@ -35,9 +35,7 @@ fn all_conditions(events: &[bool]) -> bool
 fn all_undefined(variables: &[Number]) -> bool
     ensures { result ≡ list_all undefined_slot variables.now }
 {
-    variables
-        .iter()
-        .all(|slot| slot.number == Number::Undefined)
+    variables.iter().all(|slot| *slot == Number::Undefined)
 }
 
 // "4: n, q or v outside its limits ...; in the writer, also an unused slot not as above"

@@ -40,13 +40,13 @@ fn put_parts(m: &Monitor, state: &mut [u64])
 {
     let t = &m.table;
     put_counts(t.n, t.q, t.v, m.last, state);
-    put(state, 4, &t.entries, |slot| entry_word(slot.entry));
+    put(state, 4, &t.entries, |slot| entry_word(slot));
     put(state, 132, &m.cells, |cell| cell);
-    put(state, 260, &m.held, |slot| number_word(slot.number));
-    put(state, 292, &t.variables, |slot| number_word(slot.number));
+    put(state, 260, &m.held, |slot| number_word(slot));
+    put(state, 292, &t.variables, |slot| number_word(slot));
     put(state, 324, &t.events, |event| either_word(event, 1, 0));
     put(state, 372, &[0; 16], |word| word);
-    put(state, 388, &m.reported, |slot| truth_word(slot.truth));
+    put(state, 388, &m.reported, |slot| truth_word(slot));
     put(state, 436, &[1; 16], |word| word);
 }
 

@@ -20,7 +20,7 @@ count-is k = sym k.field_at-2.ensures ∙ k.in-Some-field_at.is
 pub returns-in_default : goal.returns-in_default
 returns-in_default c =
     let a = c.args in
-    taken_refused a.reported c.from_residual.result _ (search rules) (time_cut a.t a.earliest a.s.now (sym c.field_at.ensures ∙ c.in_default.is))
+    sym (ap (taken_of a.reported) (time_cut a.t a.earliest a.s.now (sym c.field_at.ensures ∙ c.in_default.is)))
 
 pub returns-then-time-earliest : goal.returns-then-time-earliest
 returns-then-time-earliest c =
@@ -33,9 +33,10 @@ returns-then-time-earliest c =
 pub returns-in_default-field_at : goal.returns-in_default-field_at
 returns-in_default-field_at c =
     let a = c.args in
-    taken_refused a.reported c.from_residual-in_default-field_at.result _ (search rules)
+    sym
+    (ap (taken_of a.reported)
     (count_cut a.t a.earliest a.s.now c.in-Some.time (time-is (goal.at.returns-in_default-field_at c).In-Some) (omega arith)
-    (sym c.field_at-2.ensures ∙ c.in_default-field_at.is))
+    (sym c.field_at-2.ensures ∙ c.in_default-field_at.is)))
 
 pub reports-requires : goal.reports-requires
 reports-requires c = omega (arith, there_lt _ 47 6 _ (count-is c))
