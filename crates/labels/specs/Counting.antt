@@ -33,7 +33,7 @@ labels_all t m k h late = sym (labels_past t m (k - m) h) ∙ ap (labels_before 
 
 -- an entry that has a label, by its slot
 abbrev pub named : Entry → Bool
-named slot = labelled slot.entry
+named slot = labelled slot
 
 -- one slot more
 count_more : (slots : List Entry) (k : ℕ) (d : Entry) → k < length slots → count_by named (take (k + 1) slots) ≡ count_by named (take k slots) + cond (named (get_or slots k d)) 1 0

@@ -21,8 +21,8 @@ count-is k = sym k.field_at-2.ensures ∙ k.in-Some-field_at.is
 pub returns-in_default : goal.returns-in_default
 returns-in_default c t counted are empty =
     let a = c.args in
-    heard_refused t a.q a.events.now counted are a.earliest a.s.now c.from_residual.result _
-    (time_cut (lent a.q a.events.now) a.earliest a.s.now (sym c.field_at.ensures ∙ c.in_default.is)) (search rules)
+    heard_refused t a.q a.events.now counted are a.earliest a.s.now _ _
+    (time_cut (lent a.q a.events.now) a.earliest a.s.now (sym c.field_at.ensures ∙ c.in_default.is)) refl
 
 pub returns-then-time-earliest : goal.returns-then-time-earliest
 returns-then-time-earliest c t counted are empty =
@@ -35,9 +35,9 @@ returns-then-time-earliest c t counted are empty =
 pub returns-in_default-field_at : goal.returns-in_default-field_at
 returns-in_default-field_at c t counted are empty =
     let a = c.args in
-    heard_refused t a.q a.events.now counted are a.earliest a.s.now c.from_residual-in_default-field_at.result _
+    heard_refused t a.q a.events.now counted are a.earliest a.s.now _ _
     (count_cut (lent a.q a.events.now) a.earliest a.s.now c.in-Some.time (time-is (goal.at.returns-in_default-field_at c).In-Some) (omega arith)
-    (sym c.field_at-2.ensures ∙ c.in_default-field_at.is)) (search rules)
+    (sym c.field_at-2.ensures ∙ c.in_default-field_at.is)) refl
 
 pub reports-requires : goal.reports-requires
 reports-requires c = omega (arith, there_lt _ 47 6 _ (count-is (goal.at.reports-requires c).In-Some-field_at))
@@ -54,7 +54,7 @@ pub returns-in_err-reports : goal.returns-in_err-reports
 returns-in_err-reports c t counted are empty =
     let a = c.args in
     heard_stopped t a.q a.events.now counted are a.earliest a.s.now c.in-Some.time c.in-Some-field_at.count
-    (goes-on (goal.at.returns-in_err-reports c).In-Some-field_at (omega arith)) c.from_residual-in_err-reports.result _ (search rules) (c.in_err-reports.ensures empty)
+    (goes-on (goal.at.returns-in_err-reports c).In-Some-field_at (omega arith)) c.from_residual.result _ (search rules) (c.in_err-reports.ensures empty)
 
 pub returns : goal.returns
 returns c t counted are empty =
