@@ -122,7 +122,7 @@ module _ (m : Monitor) (shape : Kept m) (good : unsound m ≡ Ok tt) where
         let x = result_in w.results (places_of e).first in
         let y = result_in w.results (places_of e).second in
         record {
-          results = λ j. all_set (λ slot. fits_n (number_in slot) ≡ true) _ _ w.results
+          results = λ j. all_set (λ slot. fits_n (number_in slot.outcome) ≡ true) _ _ w.results
               (meaning_fits m.table k e ((sound_of m good).operands k (omega arith)) x y (recalled m s w k) (recalled_fits w so k))
               so.results k j;
           held = given_fits (is_done (meaning e x y (recalled m s w k))) (places_of e).variable (number_in y) w.held (so.results (places_of e).second) so.held;

@@ -78,8 +78,8 @@ rule_length s k e r low entries imports =
 -- a reach has its 128 and 48 marks, whatever it answers
 reply_slots : (t : Table) (k : ℕ) (a : Answer) → (length (reach_reply t k a).entries ≡ 128) × (length (reach_reply t k a).imports ≡ 48)
 unfolding marks_of
-reply_slots t k (Ok _) = length_list 128 _, length_list 48 _
-reply_slots t k (Err r) = length-replicate 128 false, length-replicate 48 false
+reply_slots t k (Ok _) = (length_list 128 _, length_list 48 _)
+reply_slots t k (Err r) = (length-replicate 128 false, length-replicate 48 false)
 
 -- the lines of an entry
 at_length : (s : List ℕ) (t : Table) (k : ℕ) → k < 1000 → length (lines_at s t k) ≤ 740
