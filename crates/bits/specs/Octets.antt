@@ -37,18 +37,11 @@ pub window_more : (s : List ℕ) (first i : ℕ) → get_or s (first + i) 0 < 25
 window_more s first i byte =
     window_join s first i 1 ∙ ap (λ (x : ℕ). bits_at s (8 * first) (8 * i) * 256 + x) (byte_number s (first + i) byte)
 
--- eight bytes
-pub eight_bytes : (s : List ℕ) (first : ℕ) → ((i : ℕ) → get_or s i 0 < 256)
-    → get_or s first 0 * 72057594037927936 + get_or s (first + 1) 0 * 281474976710656 + get_or s (first + 2) 0 * 1099511627776
-    + get_or s (first + 3) 0 * 4294967296
-    + get_or s (first + 4) 0 * 16777216
-    + get_or s (first + 5) 0 * 65536
-    + get_or s (first + 6) 0 * 256
-    + get_or s (first + 7) 0
-    ≡ bits_at s (8 * first) 64
-eight_bytes s first byte =
-    let more = λ (i : ℕ). window_more s first i (byte (first + i)) in
-    omega (arith, byte_number s first (byte first), more 1, more 2, more 3, more 4, more 5, more 6, more 7)
+-- four bytes
+pub four_bytes : (s : List ℕ) (first : ℕ) → get_or s first 0 < 256 → get_or s (first + 1) 0 < 256 → get_or s (first + 2) 0 < 256 → get_or s (first + 3) 0 < 256
+    → get_or s first 0 * 16777216 + get_or s (first + 1) 0 * 65536 + get_or s (first + 2) 0 * 256 + get_or s (first + 3) 0 ≡ bits_at s (8 * first) 32
+four_bytes s first a b c d =
+    omega (arith, byte_number s first a, window_more s first 1 b, window_more s first 2 c, window_more s first 3 d)
 
 -- a field within a window of n bits, t of them after it
 pub window_field : (s : List ℕ) (from n at w t : ℕ) → from ≤ at → at + w + t ≡ from + n → bits_at s from n / 2 ^ t % 2 ^ w ≡ bits_at s at w
@@ -60,10 +53,9 @@ window_field s from n at w t starts ends =
     ∙ number_part (bit_at s) from (at - from) w t (bit_lt s)
     ∙ ap (λ (m : ℕ). bits_at s m w) place
 
--- the same where m counts as 0, and n is no more: only after a field of no bits are there so many
-pub window_shifted : (s : List ℕ) (from n at w t m : ℕ) → n ≤ m → from ≤ at → at + w + t ≡ from + n
-    → bits_at s from n / 2 ^ (t % m) % 2 ^ w ≡ bits_at s at w
+-- the same where n counts as 0: only after a field of no bits are there so many
+pub window_shifted : (s : List ℕ) (from n at w t : ℕ) → from ≤ at → at + w + t ≡ from + n → bits_at s from n / 2 ^ (t % n) % 2 ^ w ≡ bits_at s at w
 unfolding bits_at number_from
-window_shifted s from n at zero t m most starts ends = omega arith
-window_shifted s from n at (suc w) t m most starts ends =
+window_shifted s from n at zero t starts ends = omega arith
+window_shifted s from n at (suc w) t starts ends =
     ap (λ (k : ℕ). bits_at s from n / 2 ^ k % 2 ^ suc w) (mod-eq_of_lt (omega arith)) ∙ window_field s from n at (suc w) t starts ends

@@ -4,6 +4,7 @@
 mod putting;
 mod taking;
 mod twos;
+mod wide;
 mod window;
 
 pub use putting::put;

@@ -2,7 +2,8 @@
 ghost use Rattle.std.specs.Prelude.{◌≡◌, ◌+◌, ◌*◌, ◌≤◌, length};
 ghost use Rattle.bits.specs.Bits.{bits_at, field_at};
 
-use crate::window::{eight, has_room, window_of};
+use crate::wide::{base_of, eight};
+use crate::window::{has_room, window_of};
 
 // The field of `w` bits from bit `at` on, in few bytes: the bytes that it touches, without the bits after it and before it.
 fn taken_short(s: &[u8], at: usize, w: usize) -> u64
@@ -18,12 +19,12 @@ fn taken_short(s: &[u8], at: usize, w: usize) -> u64
 }
 
 // The same field, in eight bytes or more: a window of eight that holds it. A field of no bits may have all 64 after it, and is 0 at any shift.
-// Two functions: tried as one (as `put_there` is), and bench (b) went from 350 to 425 ns, above its mark.
+// Two functions: tried as one (as `put_there` is), and bench (b) went from 350 ns to 425, above its mark.
 fn taken_wide(s: &[u8], at: usize, w: usize) -> u64
     requires { (w ≤ 48) × ((at + w ≤ 8 * length s.now) × (8 ≤ length s.now)) }
     ensures { result ≡ bits_at s.now at w }
 {
-    let base = (at / 8).min(s.len() - 8);
+    let base = base_of(s.len(), at / 8);
     let used = at - 8 * base;
     let after = (64 - used - w) % 64;
     let window = eight(s, base);

@@ -1,6 +1,8 @@
-// The window that a field is taken from and put by: eight bytes as one number, or all the bytes where they are fewer.
+// The bytes that a field touches, as one number, and whether they are there.
 ghost use Rattle.std.specs.Prelude.{◌≡◌, ◌&&◌, ◌+◌, ◌*◌, ◌≤◌, leb, length};
 ghost use Rattle.bits.specs.Bits.{widest, bits_at};
+
+use crate::wide::eight;
 
 // Whether a field of w bits from bit `at` on ends within `len` bytes, and is no wider than the widest.
 pub(crate) fn has_room(len: usize, at: usize, w: usize) -> bool
@@ -19,23 +21,6 @@ pub(crate) fn has_room(len: usize, at: usize, w: usize) -> bool
         return true;
     }
     used + w <= 8 * left
-}
-
-// The number that the eight bytes from byte `first` on make.
-pub(crate) fn eight(s: &[u8], first: usize) -> u64
-    requires { first + 8 ≤ length s.now }
-    ensures { result ≡ bits_at s.now (8 * first) 64 }
-{
-    u64::from_be_bytes([
-        s[first],
-        s[first + 1],
-        s[first + 2],
-        s[first + 3],
-        s[first + 4],
-        s[first + 5],
-        s[first + 6],
-        s[first + 7],
-    ])
 }
 
 // The number that `count` bytes make from byte `first` on, at most eight of them.
