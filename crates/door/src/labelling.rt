@@ -30,9 +30,7 @@ pub fn nimbra_label(script: &[u8], entry: u64, place: &mut [u64]) -> u8
         return WRONG_SIZE;
     }
     let found = reader::find_label(script, entry as usize);
-    let answer = found.answer;
-    let span = found.span;
-    show_place(answer, span, place)
+    show_place(found.answer, found.span, place)
 }
 
 // Where the block of labels stands, as `nimbra_write` takes it.
@@ -43,7 +41,5 @@ pub fn nimbra_labels(script: &[u8], place: &mut [u64]) -> u8
         return WRONG_SIZE;
     }
     let scan = reader::scan_script(script, 0);
-    let answer = scan.answer;
-    let span = scan.block;
-    show_place(answer, span, place)
+    show_place(scan.answer, scan.block, place)
 }

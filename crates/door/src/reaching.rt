@@ -33,8 +33,7 @@ fn show_reach(found: Reach, marks: &mut [u8]) -> u8
     requires { (length marks.old ≡ 177) × Slotted found }
     ensures { Leaves (marks_left found.answer found marks.old) result marks.new }
 {
-    let answer = found.answer;
-    match answer {
+    match found.answer {
         Err(r) => u8::from(r),
         Ok(()) => {
             put_reach(found, marks);

@@ -14,8 +14,7 @@ pub fn nimbra_start(script: &[u8], state: &mut [u64]) -> u8
         return WRONG_SIZE;
     }
     let read = reader::read(script);
-    let answer = read.answer;
-    match answer {
+    match read.answer {
         Err(r) => u8::from(r),
         Ok(()) => {
             words::pack(monitor::start(read.table).monitor, state);

@@ -12,8 +12,7 @@ fn show_size(written: Written, size: &mut [u64]) -> u8
     requires { length size.old ≡ 1 }
     ensures { Leaves (size_left written.answer written.size size.old) result size.new }
 {
-    let answer = written.answer;
-    match answer {
+    match written.answer {
         Err(r) => u8::from(r),
         Ok(()) => {
             size[0] = written.size as u64;

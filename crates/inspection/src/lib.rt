@@ -42,8 +42,7 @@ pub fn lines(script: &[u8], out: &mut [u8]) -> usize
     ensures within { result ≤ length out.old }
 {
     let read = reader::read(script);
-    let answer = read.answer;
-    match answer {
+    match read.answer {
         Ok(()) => {
             let at = lines::put_script(out, 0, read.table.n);
             rules(script, read.table, out, at)

@@ -22,7 +22,8 @@ pub(crate) fn start(x: u64, cell: u64) -> Judged
     }
 }
 
-// "End occurs where it is false and was not false one step before." It remembers that it failed.
+// "End occurs where it is false and was not false one step before." It remembers that it failed. Of the shape of `start`, for reason (d): each
+// is a sentence of document 01.
 pub(crate) fn end(x: u64, cell: u64) -> Judged
     ensures { (result.outcome ≡ end_word x cell) × (result.cell ≡ end_cell x) }
 {

@@ -89,7 +89,7 @@ fn none(kind: usize) -> Apart
     ensures { result ≡ no_operand kind }
 {
     Apart {
-        kind: kind,
+        kind,
         first: Operand::Nothing,
         second: Operand::Nothing,
         third: Operand::Nothing,
@@ -100,7 +100,7 @@ fn one(kind: usize, o: Operand) -> Apart
     ensures { result ≡ one_operand kind o }
 {
     Apart {
-        kind: kind,
+        kind,
         first: o,
         second: Operand::Nothing,
         third: Operand::Nothing,
@@ -111,7 +111,7 @@ fn two(kind: usize, s: Sort, a: u16, t: Sort, b: u16) -> Apart
     ensures { result ≡ two_entries kind s a t b }
 {
     Apart {
-        kind: kind,
+        kind,
         first: Operand::Entry(s, a),
         second: Operand::Entry(t, b),
         third: Operand::Nothing,

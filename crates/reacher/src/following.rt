@@ -12,7 +12,8 @@ use crate::updates::{Updates, cut, variable_named};
 use kinds::{Apart, Operand, apart_of};
 use table::Table;
 
-// The entry that an operand names; where it names none, a number past the slots.
+// The entry that an operand names; where it names none, a number past the slots. `import_named` and `variable_named` have its shape, for reason (d):
+// which case is taken is all that it says.
 fn entry_named(o: Operand) -> usize
     ensures { result ≡ entry_named o }
 {

@@ -1,5 +1,6 @@
 // A reach as text.
 use reach::Reach;
+use refusals::Refusal;
 use std::io;
 
 // The numbers of the marks that are set, in every slot.
@@ -31,9 +32,8 @@ fn say_reached(rt: &impl Print, r: Reach) -> io::Result<()> {
 }
 
 // "A refused reach returns no marks."
-fn say_refused(rt: &impl Print, r: Reach, number: u8) -> io::Result<()> {
-    rt.print("refused ")?;
-    rt.print(number)?;
+fn say_refused(rt: &impl Print, r: Reach, refusal: Refusal) -> io::Result<()> {
+    print!(rt; "refused {}", u8::from(refusal))?;
     rt.print(if marked(&r.entries) || marked(&r.imports) || r.clock {
         ", marks"
     } else {
@@ -42,11 +42,8 @@ fn say_refused(rt: &impl Print, r: Reach, number: u8) -> io::Result<()> {
 }
 
 pub(crate) fn say_reach(rt: &impl Print, r: Reach) -> io::Result<()> {
-    let answer = r.answer;
-    let number = parts::outcome(answer);
-    if number == 0 {
-        say_reached(rt, r)
-    } else {
-        say_refused(rt, r, number)
+    match r.answer {
+        Ok(()) => say_reached(rt, r),
+        Err(refusal) => say_refused(rt, r, refusal),
     }
 }

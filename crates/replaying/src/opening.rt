@@ -48,8 +48,7 @@ impl Player {
         ensures line { Lays out.old 0 (opening_line (script_of script.now)) out.new result.filled }
     {
         let read = reader::read(script);
-        let answer = read.answer;
-        match answer {
+        match read.answer {
             Ok(()) => {
                 Opening {
                     player: Player::begun(script, read.table),

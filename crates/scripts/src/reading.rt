@@ -1,12 +1,13 @@
 // Cases of reading: the table of a script, and the label of one of its entries.
 use crate::showing::say_table;
 use crate::writing::{ROOM, rest_untouched};
+use refusals::Refusal;
 use std::io;
 use table::Table;
 
+// A refusal by its number: that is what `parts::label` hands out.
 pub(crate) fn say_refused(rt: &impl Print, number: u8) -> io::Result<()> {
-    rt.print("refused ")?;
-    rt.print(number)
+    print!(rt; "refused {number}")
 }
 
 // "A refused script returns the empty table (counts 0, all slots unused)."
@@ -19,10 +20,10 @@ fn say_emptiness(rt: &impl Print, t: Table) -> io::Result<()> {
 }
 
 // The block of a refused script: its number, and an empty part.
-fn say_no_block(rt: &impl Print, s: &[u8], refused: u8) -> io::Result<()> {
+fn say_no_block(rt: &impl Print, s: &[u8], refusal: Refusal) -> io::Result<()> {
     let mut number: u8 = 0;
     let block = parts::block(s, &mut number);
-    rt.print(if number == refused && block.is_empty() {
+    rt.print(if number == u8::from(refusal) && block.is_empty() {
         ", no block"
     } else {
         ", a block"
@@ -67,17 +68,18 @@ fn say_same(rt: &impl Print, s: &[u8], t: Table) -> io::Result<()> {
 
 pub(crate) fn read(rt: &impl Print, s: &[u8]) -> io::Result<()> {
     let script = reader::read(s);
-    let answer = script.answer;
-    let table = script.table;
-    let number = parts::outcome(answer);
-    if number != 0 {
-        say_refused(rt, number)?;
-        say_emptiness(rt, table)?;
-        return say_no_block(rt, s, number);
+    match script.answer {
+        Ok(()) => {
+            say_table(rt, script.table)?;
+            say_labels(rt, s, script.table.n)?;
+            say_same(rt, s, script.table)
+        }
+        Err(refusal) => {
+            say_refused(rt, u8::from(refusal))?;
+            say_emptiness(rt, script.table)?;
+            say_no_block(rt, s, refusal)
+        }
     }
-    say_table(rt, table)?;
-    say_labels(rt, s, table.n)?;
-    say_same(rt, s, table)
 }
 
 pub(crate) fn label(rt: &impl Print, s: &[u8], rest: &[u8]) -> io::Result<()> {

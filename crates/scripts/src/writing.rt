@@ -35,13 +35,10 @@ fn say_destination(rt: &impl Print, d: &[u8]) -> io::Result<()> {
 
 fn into(rt: &impl Print, t: Table, block: &[u8], dst: &mut [u8]) -> io::Result<()> {
     let written = writer::write(t, block, dst);
-    let answer = written.answer;
     let size = written.size;
-    let number = parts::outcome(answer);
-    if number != 0 {
-        say_refused(rt, number)?;
-    } else {
-        rt.print("written")?;
+    match written.answer {
+        Ok(()) => rt.print("written")?,
+        Err(refusal) => say_refused(rt, u8::from(refusal))?,
     }
     print!(rt; ", size {size}")?;
     rt.print(if rest_untouched(dst, size) {

@@ -1,12 +1,12 @@
 // A script read and a monitor started on its table; steps taken by a monitor.
 use crate::showing::{say_nothings, say_results};
 use monitor::{Monitor, Stepped};
+use refusals::Refusal;
 use std::io;
 use table::Table;
 
-fn say_refused(rt: &impl Print, number: u8) -> io::Result<()> {
-    rt.print("refused ")?;
-    rt.print(number)
+fn say_refused(rt: &impl Print, refusal: Refusal) -> io::Result<()> {
+    print!(rt; "refused {}", u8::from(refusal))
 }
 
 // The time of the last accepted step, which is kept as one more.
@@ -25,17 +25,18 @@ fn say_table(rt: &impl Print, m: Monitor, t: Table, same: &str) -> io::Result<()
 // "A start on a table at fault gives 29 and the monitor of the empty table"
 fn start(rt: &impl Print, t: Table) -> io::Result<Monitor> {
     let started = monitor::start(t);
-    let answer = started.answer;
     let m = started.monitor;
-    let number = parts::outcome(answer);
-    if number == 0 {
-        rt.print("start accepted, ")?;
-        say_table(rt, m, t, "same table")?;
-    } else {
-        rt.print("start ")?;
-        say_refused(rt, number)?;
-        rt.print(", ")?;
-        say_table(rt, m, Table::empty(), "empty table")?;
+    match started.answer {
+        Ok(()) => {
+            rt.print("start accepted, ")?;
+            say_table(rt, m, t, "same table")?;
+        }
+        Err(refusal) => {
+            rt.print("start ")?;
+            say_refused(rt, refusal)?;
+            rt.print(", ")?;
+            say_table(rt, m, Table::empty(), "empty table")?;
+        }
     }
     say_last(rt, m.last)?;
     Ok(m)
@@ -44,17 +45,13 @@ fn start(rt: &impl Print, t: Table) -> io::Result<Monitor> {
 // A refused script stands for the empty table.
 pub(crate) fn read(rt: &impl Print, s: &[u8]) -> io::Result<Monitor> {
     let script = reader::read(s);
-    let answer = script.answer;
-    let table = script.table;
-    let number = parts::outcome(answer);
     rt.print("script ")?;
-    if number == 0 {
-        rt.print(table.n)?;
-    } else {
-        say_refused(rt, number)?;
+    match script.answer {
+        Ok(()) => rt.print(script.table.n)?,
+        Err(refusal) => say_refused(rt, refusal)?,
     }
     rt.print(", ")?;
-    start(rt, table)
+    start(rt, script.table)
 }
 
 // A start on the table of a monitor.
@@ -85,13 +82,12 @@ fn say_unchanged(rt: &impl Print, m: Monitor, r: Stepped) -> io::Result<()> {
 
 pub(crate) fn step(rt: &impl Print, m: Monitor, s: &[u8]) -> io::Result<Monitor> {
     let r = monitor::step(m, s);
-    let answer = r.answer;
-    let number = parts::outcome(answer);
-    if number == 0 {
-        say_accepted(rt, m, r)?;
-    } else {
-        say_refused(rt, number)?;
-        say_unchanged(rt, m, r)?;
+    match r.answer {
+        Ok(()) => say_accepted(rt, m, r)?,
+        Err(refusal) => {
+            say_refused(rt, refusal)?;
+            say_unchanged(rt, m, r)?;
+        }
     }
     Ok(r.monitor)
 }

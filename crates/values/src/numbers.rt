@@ -62,6 +62,7 @@ fn subtract(a: i64, b: i64) -> Number
     }
 }
 
+// Sum and difference, less and equal are of one shape, for reason (d): one function of a closure would say less in more lines.
 impl Number {
     // "Sum ... undefined where an operand is."
     pub fn sum(self, other: Number) -> Number

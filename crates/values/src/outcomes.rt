@@ -4,6 +4,7 @@ ghost use Rattle.values.specs.Outcomes.{condition_in, event_in, number_in, is_do
 
 use crate::{Number, Outcome, Truth};
 
+// Four of one shape, for reason (d): what each takes and what stands in for it is the whole of it.
 impl Outcome {
     // a result of the sort C
     pub fn condition(self) -> Truth

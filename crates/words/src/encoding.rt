@@ -49,7 +49,7 @@ pub(crate) fn either_word(b: bool, y: u64, n: u64) -> u64
     if b { y } else { n }
 }
 
-// A property's condition: not known, violated, not violated.
+// A property's condition: not known, violated, not violated. Of the shape of `truth_word`, for reason (d): each is a table of the words.
 fn property_word(c: Truth) -> u64
     ensures { result ≡ property_word c }
 {

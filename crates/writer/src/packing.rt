@@ -97,7 +97,7 @@ fn put_variables(dst: &mut [u8], from: usize, t: Table) -> usize
     at
 }
 
-// "n entries"
+// "n entries"; of the shape of the two before, for reason (d): a loop of one call each, and one that takes a closure would need its contract.
 fn put_entries(dst: &mut [u8], from: usize, t: Table) -> usize
     requires { (from ≤ 4096) × (t.n ≤ 128) }
     ensures { Puts dst.old from (entries_parts t t.n) dst.new result }
