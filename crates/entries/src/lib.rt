@@ -1,4 +1,5 @@
 // One entry of a script read: its kind, then its operands, each judged before the next is taken.
+// Fields are taken apart by let .. else, for reason (a): document 01 names the form.
 #![tactic(auto)]
 
 ghost use Rattle.std.specs.Prelude.{◌≡◌, ◌*◌, ◌≤◌, length};

@@ -19,7 +19,7 @@ reply_of (Ok time) words = telling time words
 reply_of (Err r) words = refusing r
 
 -- the same of what is taken of a step
-abbrev reply_by : Answer → ℕ → List ℕ → Reply
+abbrev pub reply_by : Answer → ℕ → List ℕ → Reply
 reply_by (Ok _) time words = telling time words
 reply_by (Err r) time words = refusing r
 

@@ -59,7 +59,7 @@ fn reach_lines(out: &mut [u8], at: usize, k: usize, reach: Reach) -> usize
     clock_line(out, at, k, reach.clock)
 }
 
-// The four lines of entry k of a script.
+// The four lines of entry k of a script. `parts` lends the number of a refusal, for the reason that stands there.
 pub(crate) fn rule_lines(
     s: &[u8],
     k: usize,

@@ -164,7 +164,8 @@ pub fn apart_of(e: Entry) -> Apart
     }
 }
 
-// The entry of a kind, 0 to 24, from the numbers of its operands; from 25 on there is none, and the clock stands in.
+// The entry of a kind, 0 to 24, from the numbers of its operands; from 25 on there is none, and the clock stands in. No TryFrom, for reason (a):
+// docs/ name it, and it answers for any number.
 #[tactic(auto, unfolding(crate::specs::Apart::made_of))]
 pub fn made(kind: usize, a: u16, b: u16, c: u16, z: i64) -> Entry
     ensures { result ≡ made_of kind a b c z }

@@ -1,4 +1,5 @@
 // Labels read one after another, up to the end of the bytes.
+// Fields are taken apart by let .. else, for reason (a): document 01 names the form.
 #![tactic(auto)]
 
 mod counting;

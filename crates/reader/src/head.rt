@@ -1,4 +1,5 @@
 // The head of a script: counts, the sorts of imports, the numbers that variables start with.
+// Fields are taken apart by let .. else, for reason (a): document 01 names the form.
 ghost use Rattle.std.specs.Prelude.{◌≡◌, ◌≤◌};
 ghost use Rattle.script.specs.Reader.{header, imports, variables, starting};
 ghost use Rattle.reader.specs.Stages.{reached};

@@ -1,4 +1,5 @@
 // The table of a script: all that comes before the labels, one stage after another.
+// Fields are taken apart by let .. else, for reason (a): document 01 names the form.
 ghost use Rattle.std.specs.Prelude.{◌≡◌, ◌*◌, ◌≤◌, length};
 ghost use Rattle.script.specs.Reader.{packed_table};
 ghost use Rattle.reader.specs.Packs.{after_entries};

@@ -13,7 +13,8 @@ pub(crate) struct Texts {
     pub(crate) sizes: [u8; Table::ENTRIES],
 }
 
-// The text of entry k's label, put into the 32 bytes of entry k; how many bytes it has.
+// The text of entry k's label, put into the 32 bytes of entry k; how many bytes it has. `parts` lends the number of a refusal, for the reason that
+// stands there.
 fn put_text(script: &[u8], k: usize, texts: &mut [u8; 4096]) -> u8
     requires { (k < 128) × TextsTo script.now (text_at k) texts.old }
     ensures { TextsTo script.now (text_at (k + 1)) texts.new × (result ≡ length (label_text script.now k)) }

@@ -43,7 +43,7 @@ fn edit(t: &mut Table, e: &[u8]) {
     }
 }
 
-// The table with every edit of a list.
+// The table with every edit of a list. Each program has its own, for reason (d): two lines over edits of its own length.
 pub(crate) fn edited(t: Table, edits: &[u8]) -> Table {
     let mut table = t;
     for e in edits.chunks_exact(18) {

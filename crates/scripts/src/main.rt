@@ -24,6 +24,7 @@ fn one(rt: &impl Print, case: &[u8]) -> io::Result<()> {
     rt.print("\n")
 }
 
+// Each program has its own, for reason (d): a room, a read and a call.
 fn main(rt: HostRuntime) -> io::Result<()> {
     let mut space = [0; casebook::ROOM];
     let n = read_full(&mut rt.stdin(), &mut space)?;

@@ -5,7 +5,7 @@ use refusals::Refusal;
 use std::io;
 use table::Table;
 
-// A refusal by its number: that is what `parts::label` hands out.
+// A refusal by its number: that is what `parts::label` and `block` lend, here and below, for the reason that stands there.
 pub(crate) fn say_refused(rt: &impl Print, number: u8) -> io::Result<()> {
     print!(rt; "refused {number}")
 }

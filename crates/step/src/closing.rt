@@ -1,4 +1,5 @@
 // The end of a step.
+// Fields are taken apart by let .. else, for reason (a): document 01 names the form.
 ghost use Rattle.std.specs.Prelude.{◌≡◌, ◌≤◌};
 ghost use Rattle.bits.specs.Bits.{field_at, padding_at};
 ghost use Rattle.step.specs.Stages.{closed};

@@ -1,4 +1,5 @@
 // A step read from front to back: its time, its reports one after another, and its end.
+// Fields are taken apart by let .. else, for reason (a): document 01 names the form.
 ghost use Rattle.std.specs.Prelude.{false, ◌≡◌, ◌≤◌, get_or};
 ghost use Rattle.table.specs.declared.Table as tables;
 ghost use Rattle.step.specs.Reader.{read_step};

@@ -1,4 +1,5 @@
 // One report of a step: its import number, judged, and what follows it.
+// Fields are taken apart by let .. else, for reason (a): document 01 names the form.
 ghost use Rattle.std.specs.Prelude.{◌≡◌, ◌≤◌};
 ghost use Rattle.table.specs.declared.Table as tables;
 ghost use Rattle.step.specs.Reader.{condition_report, event_report, report_for};

@@ -28,7 +28,7 @@ fn edit(m: &mut Monitor, e: &[u8]) {
     }
 }
 
-// The monitor with every edit of a list, of eight bytes each.
+// The monitor with every edit of a list, of eight bytes each. Each program has its own, for reason (d): two lines over edits of its own length.
 pub(crate) fn edited(m: Monitor, edits: &[u8]) -> Monitor {
     let mut monitor = m;
     for e in edits.chunks_exact(8) {
