@@ -1,5 +1,5 @@
 // Numbers in bytes, the most significant byte first. A byte past the end is 0.
-ghost use Rattle.std.specs.Prelude.{◌≡◌, ◌≤◌, drop, get_or};
+ghost use Rattle.std.specs.Prelude.{◌≡◌, drop, get_or, min};
 ghost use Rattle.casebook.specs.Cases.{number_of};
 
 // One byte.
@@ -18,14 +18,14 @@ pub fn word(s: &[u8], at: usize) -> u16
     byte(rest, 0) as u16 * 256 + byte(rest, 1) as u16
 }
 
-// As many bytes as are asked for, up to eight.
+// As many bytes as are asked for, and no more than eight.
 pub fn number(s: &[u8], at: usize, count: usize) -> u64
-    requires { count ≤ 8 }
-    ensures { result ≡ number_of count (drop at s.now) }
+    ensures { result ≡ number_of (min count 8) (drop at s.now) }
 {
     let rest = s.get(at..).unwrap_or(&[]);
+    let bytes = count.min(8);
     let mut number = 0;
-    for i in 0..count {
+    for i in 0..bytes {
         number = number * 256 + byte(rest, i) as u64;
     }
     number

@@ -59,7 +59,8 @@ pub fn read(s: &[u8], at: usize, known: Known) -> Result<(Entry, usize), Refusal
         return Err(Refusal::Kind);
     }
     let places = kinds::apart_of(kinds::made(kind as usize, 0, 0, 0, 0));
-    let a = operand(s, at + 5, places.first, known)?;
+    let start = at + 5;
+    let a = operand(s, start, places.first, known)?;
     let b = operand(s, a.next, places.second, known)?;
     let c = operand(s, b.next, places.third, known)?;
     let entry = kinds::made(

@@ -8,6 +8,7 @@ use Rattle.std.proofs.lemmas.List.{length-replicate}
 use Rattle.std.proofs.Math.Seq.{set_out}
 use Rattle.values.specs.declared.Truth.{Truth}
 use Rattle.refusals.specs.Answers.{Answer}
+use Rattle.refusals.specs.Accepting.{not_accepted}
 use Rattle.refusals.specs.declared.Refusal.{Refusal}
 use Rattle.bits.specs.Lists.{length_list}
 use Rattle.bits.specs.Filled.{list_all, list_set, get_d_padded}
@@ -70,10 +71,6 @@ pub record Gathered (t : Table) (count : ℕ) (s : List ℕ) (answer : Answer) (
   pub times : (before : List Truth) (time : ℕ) → answer ≡ Ok tt → time ≡ (taken_of before (after_count t time count s)).time
   pub told : (before : List Truth) (time : ℕ) → answer ≡ Ok tt → words ≡ told_words (taken_of before (after_count t time count s)).told
 
--- a refusal is no acceptance
-pub no_acceptance : {X : Type 0} (r : Refusal) → ◌≡◌ {A = Answer} (Err r) (Ok tt) → X
-no_acceptance r e = absurd (let z : ◌≡◌ {A = ℕ} 0 1 = cc e in omega arith)
-
 -- nothing was reported before
 abbrev unreported : List Truth
 unreported = replicate limits.imports Truth.Undefined
@@ -99,8 +96,8 @@ module _ {t : Table} {count : ℕ} {s : List ℕ} where
   gathered_refused r stops =
       record {
         answers = λ before time. ap (λ (g : Got Step). (taken_of before g).answer) (sym (stops time));
-        times = λ before time e. no_acceptance r e;
-        told = λ before time e. no_acceptance r e;
+        times = λ before time e. not_accepted r e;
+        told = λ before time e. not_accepted r e;
       }
 
   -- there is none

@@ -31,30 +31,26 @@ labels_past t m (suc more) h = rw (add-suc m more, past_slots t (m + more) (omeg
 labels_all : (t : Table) (m k : ℕ) → length t.entries ≤ m → m ≤ k → labels_before t m ≡ labels_before t k
 labels_all t m k h late = sym (labels_past t m (k - m) h) ∙ ap (labels_before t) {x = m + (k - m)} {y = k} (omega arith)
 
--- an entry that has a label, by its slot
-abbrev pub named : Entry → Bool
-named slot = labelled slot
-
 -- one slot more
-count_more : (slots : List Entry) (k : ℕ) (d : Entry) → k < length slots → count_by named (take (k + 1) slots) ≡ count_by named (take k slots) + cond (named (get_or slots k d)) 1 0
-count_more slots k d room = by (named (get_or slots k d)) refl
+count_more : (slots : List Entry) (k : ℕ) (d : Entry) → k < length slots → count_by labelled (take (k + 1) slots) ≡ count_by labelled (take k slots) + cond (labelled (get_or slots k d)) 1 0
+count_more slots k d room = by (labelled (get_or slots k d)) refl
   where
-    by : (b : Bool) → named (get_or slots k d) ≡ b → count_by named (take (k + 1) slots) ≡ count_by named (take k slots) + cond (named (get_or slots k d)) 1 0
-    by true e = rw e (count_by_more_yes named slots k d room e)
-    by false e = rw (e, add-zero) (count_by_more_no named slots k d room e)
+    by : (b : Bool) → labelled (get_or slots k d) ≡ b → count_by labelled (take (k + 1) slots) ≡ count_by labelled (take k slots) + cond (labelled (get_or slots k d)) 1 0
+    by true e = rw e (count_by_more_yes labelled slots k d room e)
+    by false e = rw (e, add-zero) (count_by_more_no labelled slots k d room e)
 
 module _ (t : Table) where
   -- the slots before k hold their labels
-  labels_below : (k : ℕ) → k ≤ length t.entries → count_by named (take k t.entries) ≡ labels_before t k
+  labels_below : (k : ℕ) → k ≤ length t.entries → count_by labelled (take k t.entries) ≡ labels_before t k
   unfolding labels_before entry_at
   labels_below zero room = refl
   labels_below (suc k) room =
-      ap (λ (n : ℕ). count_by named (take n t.entries)) (sym (add-one k))
+      ap (λ (n : ℕ). count_by labelled (take n t.entries)) (sym (add-one k))
       ∙ count_more t.entries k (Entry.ImportedCondition 0) (omega arith)
       ∙ ap (λ (n : ℕ). n + cond (labelled (entry_at t k)) 1 0) (labels_below k (omega arith))
 
   -- and where k is past the slots, all of them do
-  pub labels_counted : (k : ℕ) → length t.entries ≡ limits.slots → count_by named (take (min k limits.slots) t.entries) ≡ labels_before t k
+  pub labels_counted : (k : ℕ) → length t.entries ≡ limits.slots → count_by labelled (take (min k limits.slots) t.entries) ≡ labels_before t k
   labels_counted k slots =
       by_cases (dec_le k limits.slots)
       (λ few. let some : min k limits.slots ≡ k = omega arith in rw some (labels_below k (omega arith)))

@@ -15,7 +15,6 @@ use Rattle.table.specs.Tables.{number_at, initial_of}
 use Rattle.table.specs.Limits.{limits}
 use Rattle.table.specs.Sound.{limits_within}
 use Rattle.table.specs.Faults.{number_fault, limits_fault, table_fault}
-use Rattle.sound.specs.Judged.{slot_fits}
 use Rattle.sound.specs.Laws.{entry_fault}
 
 module _ (f : ℕ → Answer) where
@@ -51,15 +50,15 @@ both false b r = refl
 
 -- the numbers of the first v variables, tested one by one
 numbers_said : (slots : List Number) (v : ℕ) → v ≤ length slots
-    → first_fault v (λ x. number_fault (number_at slots x)) ≡ unless (list_all slot_fits (take v slots)) Refusal.Range
+    → first_fault v (λ x. number_fault (number_at slots x)) ≡ unless (list_all fits_n (take v slots)) Refusal.Range
 unfolding first_fault
 numbers_said slots zero room = refl
 numbers_said slots (suc v) room =
     ap₂ and_then (numbers_said slots v (omega arith)) (number_said_lem (number_at slots v))
-    ∙ both (list_all slot_fits (take v slots)) (fits_n (number_at slots v)) Refusal.Range
+    ∙ both (list_all fits_n (take v slots)) (fits_n (number_at slots v)) Refusal.Range
     ∙ ap (λ (b : Bool). unless b Refusal.Range)
-    (sym (list_all_more slot_fits slots v Number.Undefined (omega arith))
-    ∙ ap (λ (n : ℕ). list_all slot_fits (take n slots)) (add-one v))
+    (sym (list_all_more fits_n slots v Number.Undefined (omega arith))
+    ∙ ap (λ (n : ℕ). list_all fits_n (take n slots)) (add-one v))
 
 -- where 4 is not given, the counts are within the slots
 pub variables_kept : (t : Table) → limits_fault t ≡ Ok tt → t.v ≤ limits.variables
@@ -70,13 +69,13 @@ entries_kept t e = (limits_within t e).0.entries
 
 -- the faults of a table in order, with its variables tested one by one
 pub table_in_turn : (t : Table) → length t.variables ≡ limits.variables
-    → table_fault t ≡ and_then (limits_fault t) (and_then (unless (list_all slot_fits (take t.v t.variables)) Refusal.Range) (first_fault t.n (entry_fault t)))
+    → table_fault t ≡ and_then (limits_fault t) (and_then (unless (list_all fits_n (take t.v t.variables)) Refusal.Range) (first_fault t.n (entry_fault t)))
 unfolding table_fault initial_of
 table_in_turn t slots = by (limits_fault t) refl
   where
     by : (a : Answer) → limits_fault t ≡ a
         → and_then (limits_fault t) (and_then (first_fault t.v (λ x. number_fault (number_at t.variables x))) (first_fault t.n (entry_fault t)))
-        ≡ and_then (limits_fault t) (and_then (unless (list_all slot_fits (take t.v t.variables)) Refusal.Range) (first_fault t.n (entry_fault t)))
+        ≡ and_then (limits_fault t) (and_then (unless (list_all fits_n (take t.v t.variables)) Refusal.Range) (first_fault t.n (entry_fault t)))
     by (Err r) e = rw e refl
     by (Ok _) e =
         let within : t.v ≤ limits.variables = variables_kept t e in

@@ -1,15 +1,14 @@
 -- An operand judged by what is lent of a table: the sorts of its entries as numbers, which imports are events, and its counts.
 use Rattle.std.specs.Prelude.{Bool, false, cond, ◌&&◌, List, ℕ, eqb, leb, ltb, get_or, Ok}
-use Rattle.values.specs.Numbers.{in_range, fits_n}
+use Rattle.values.specs.Numbers.{in_range}
 use Rattle.refusals.specs.declared.Refusal.{Refusal}
 use Rattle.refusals.specs.Answers.{Answer}
 use Rattle.refusals.specs.Numbering.{unless, and_then}
 use Rattle.table.specs.declared.Sort.{Sort}
 use Rattle.table.specs.declared.Entry.{Entry}
-use Rattle.values.specs.declared.Number.{Number}
 use Rattle.table.specs.Limits.{limits}
 use Rattle.table.specs.Kinds.{sort_number, operands_of}
-use Rattle.table.specs.Tables.{is_undefined, zero_constant}
+use Rattle.table.specs.Tables.{zero_constant}
 use Rattle.kinds.specs.declared.Operand.{Operand}
 use Rattle.kinds.specs.declared.Apart.{Apart}
 
@@ -38,14 +37,6 @@ apart_judged sorts events q v k parts =
 -- "unused entry slots are the constant 0"
 abbrev pub zero_slot : Entry → Bool
 zero_slot slot = zero_constant (operands_of slot)
-
--- "unused variable slots undefined"
-abbrev pub undefined_slot : Number → Bool
-undefined_slot slot = is_undefined slot
-
--- "13: number outside 48 bits"
-abbrev pub slot_fits : Number → Bool
-slot_fits slot = fits_n slot
 
 -- "n, q or v outside its limits"
 abbrev pub counts_kept : ℕ → ℕ → ℕ → Bool

@@ -12,9 +12,9 @@ use Rattle.values.specs.declared.Number.{Number}
 use Rattle.table.specs.declared.Entry.{Entry}
 use Rattle.table.specs.declared.Table.{Table}
 use Rattle.table.specs.Limits.{limits}
-use Rattle.table.specs.Tables.{entry_at, is_event, initial_of, every_slot, unused_slots}
+use Rattle.table.specs.Tables.{entry_at, is_event, initial_of, is_undefined, every_slot, unused_slots}
 use Rattle.table.specs.Faults.{limits_fault}
-use Rattle.sound.specs.Judged.{counts_kept, zero_slot, undefined_slot}
+use Rattle.sound.specs.Judged.{counts_kept, zero_slot}
 
 module _ {A : Type 0} (p : A → Bool) (from : ℕ) (xs : List A) (d : A) where
   -- the slots from `from` on and below n
@@ -68,15 +68,15 @@ pub limits_in_turn : (t : Table) → length t.entries ≡ limits.slots → lengt
     ≡ and_then (unless (counts_kept t.n t.q t.v) Refusal.TableLimits)
     (and_then (unless (list_all zero_slot (take (limits.slots - t.n) (drop t.n t.entries))) Refusal.TableLimits)
     (and_then (unless (list_all not (take (limits.imports - t.q) (drop t.q t.events))) Refusal.TableLimits)
-    (unless (list_all undefined_slot (take (limits.variables - t.v) (drop t.v t.variables))) Refusal.TableLimits)))
+    (unless (list_all is_undefined (take (limits.variables - t.v) (drop t.v t.variables))) Refusal.TableLimits)))
 unfolding limits_fault unused_slots entry_at is_event initial_of
 limits_in_turn t entries events variables =
     rw (
       every_slot_lem zero_slot t.n t.entries (Entry.ImportedCondition 0) limits.slots (omega arith),
       every_slot_lem not t.q t.events false limits.imports (omega arith),
-      every_slot_lem undefined_slot t.v t.variables Number.Undefined limits.variables (omega arith),
+      every_slot_lem is_undefined t.v t.variables Number.Undefined limits.variables (omega arith),
     )
     (tested (counts_kept t.n t.q t.v)
     (list_all zero_slot (take (limits.slots - t.n) (drop t.n t.entries)))
     (list_all not (take (limits.imports - t.q) (drop t.q t.events)))
-    (list_all undefined_slot (take (limits.variables - t.v) (drop t.v t.variables))))
+    (list_all is_undefined (take (limits.variables - t.v) (drop t.v t.variables))))

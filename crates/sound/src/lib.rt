@@ -10,7 +10,7 @@ ghost use Rattle.refusals.specs.Numbering.{first_fault};
 ghost use Rattle.table.specs.Limits.{limits};
 ghost use Rattle.table.specs.Kinds.{operands_of};
 ghost use Rattle.table.specs.Tables.{entry_at};
-ghost use Rattle.sound.specs.Judged.{slot_fits};
+ghost use Rattle.values.specs.Numbers.{fits_n};
 ghost use Rattle.table.specs.Faults.{operands_fault, table_fault};
 
 use crate::judging::unless;
@@ -23,7 +23,7 @@ use values::Number;
 
 // "variables (13; ...)"
 fn all_fit(variables: &[Number]) -> bool
-    ensures { result ≡ list_all slot_fits variables.now }
+    ensures { result ≡ list_all fits_n variables.now }
 {
     variables.iter().all(|slot| slot.in_range())
 }

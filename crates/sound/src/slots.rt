@@ -2,7 +2,8 @@
 ghost use Rattle.std.specs.Prelude.{not, ◌≡◌};
 ghost use Rattle.std.specs.List.{list_all};
 ghost use Rattle.table.specs.Faults.{limits_fault};
-ghost use Rattle.sound.specs.Judged.{counts_kept, undefined_slot, zero_slot};
+ghost use Rattle.sound.specs.Judged.{counts_kept, zero_slot};
+ghost use Rattle.table.specs.Tables.{is_undefined};
 
 use crate::judging::unless;
 use refusals::Refusal;
@@ -33,7 +34,7 @@ fn all_conditions(events: &[bool]) -> bool
 
 // "unused variable slots undefined"
 fn all_undefined(variables: &[Number]) -> bool
-    ensures { result ≡ list_all undefined_slot variables.now }
+    ensures { result ≡ list_all is_undefined variables.now }
 {
     variables.iter().all(|slot| *slot == Number::Undefined)
 }

@@ -4,5 +4,5 @@ use native.Mathlib.Omega.{arith}
 use Rattle.bits.specs.Fields.{there_ends}
 use Rattle.entries.proofs.read.Goals as goal
 
-pub overflow_add-at : goal.overflow_add-at
-overflow_add-at c = omega (arith, there_ends c.args.s.now _ _ _ (sym c.field_at.ensures ∙ c.in-Some.is), c.if-too_long.false)
+pub overflow_add-start : goal.overflow_add-start
+overflow_add-start c = omega (arith, there_ends c.args.s.now _ _ _ (sym c.field_at.ensures ∙ c.in-Some.is), c.if-too_long.false)
