@@ -28,7 +28,7 @@ unfolding labels_before labelled kind_of
 labels_past t m zero h = ap (labels_before t) (add-zero m)
 labels_past t m (suc more) h = rw (add-suc m more, past_slots t (m + more) (omega arith), labels_past t m more h) (add-zero (labels_before t m))
 
-labels_all : (t : Table) (m k : ℕ) → length t.entries ≤ m → m ≤ k → labels_before t m ≡ labels_before t k
+pub labels_all : (t : Table) (m k : ℕ) → length t.entries ≤ m → m ≤ k → labels_before t m ≡ labels_before t k
 labels_all t m k h late = sym (labels_past t m (k - m) h) ∙ ap (labels_before t) {x = m + (k - m)} {y = k} (omega arith)
 
 -- one slot more

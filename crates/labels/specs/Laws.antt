@@ -26,7 +26,7 @@ printable_lem [] = refl
 printable_lem (b ∷ bs) = ap (λ (rest : Bool). leb 0x20 b && leb b 0x7E && rest) (printable_lem bs)
 
 -- the length isn't there
-label_cut : (s : List ℕ) (at : ℕ) → field_at s at 8 ≡ None → label s at ≡ refused Refusal.Cut
+pub label_cut : (s : List ℕ) (at : ℕ) → field_at s at 8 ≡ None → label s at ≡ refused Refusal.Cut
 unfolding label
 label_cut s at e = rw e
 
@@ -48,7 +48,7 @@ label_text_lem s from size e h =
 
 module _ (s : List ℕ) (first size : ℕ) where
   -- the text isn't wholly there
-  text_cut : length s < first + size → text size s (8 * first) ≡ refused Refusal.Cut
+  pub text_cut : length s < first + size → text size s (8 * first) ≡ refused Refusal.Cut
   unfolding text
   text_cut h = rw (lt-leb (8 * first + 8 * size) (8 * length s) (omega arith))
 

@@ -49,7 +49,7 @@ module _ (m : Monitor) (found : Answer) (judged : found ≡ unsound m) (bytes : 
 
   module _ (good : found ≡ Ok tt) (s : Taken) (read : s ≡ taken_by m bytes) where
     -- a monitor without fault answers by what was read
-    step_sound : step_reply s.answer m s ≡ step_of m bytes
+    pub step_sound : step_reply s.answer m s ≡ step_of m bytes
     unfolding step_of
     step_sound = rw (sym judged ∙ good, read)
 

@@ -50,8 +50,11 @@ fn kept_fault(m: Monitor) -> Result<(), Refusal>
     if !kept_fits(m.last) {
         return Err(Refusal::Unsound);
     }
-    held_fault(&m.held)?;
-    cells_fault(&m.cells)
+    // Locals, for reason (b): lent from `m` itself, a copy of the whole monitor stands on the stack, 2,896 bytes more for a step of the library.
+    let held = m.held;
+    held_fault(&held)?;
+    let cells = m.cells;
+    cells_fault(&cells)
 }
 
 // "29: monitor or table that the writer would refuse with 4, 7, 8 or 13, or a kept number or time out of range"

@@ -30,9 +30,9 @@ fn one(rt: &impl Print, case: &[u8]) -> io::Result<()> {
     let (name, rest) = split_part(case);
     let (script, rest) = split_part(rest);
     rt.write_all(name)?;
-    rt.print(": ")?;
+    rt.write_all(b": ")?;
     asked(rt, script, rest)?;
-    rt.print("\n")
+    rt.write_all(b"\n")
 }
 
 // Each program has its own, for reason (d): a room, a read and a call.

@@ -20,25 +20,27 @@ fn marked(marks: &[bool]) -> bool {
 
 // "A reach shows all three: its entries, its imports and whether it has the clock."
 fn say_reached(rt: &impl Print, r: Reach) -> io::Result<()> {
-    rt.print("reached | entries")?;
+    rt.write_all(b"reached | entries")?;
     say_marks(rt, &r.entries)?;
-    rt.print(" | imports")?;
+    rt.write_all(b" | imports")?;
     say_marks(rt, &r.imports)?;
-    rt.print(if r.clock {
+    let clock = if r.clock {
         " | clock yes"
     } else {
         " | clock no"
-    })
+    };
+    rt.write_all(clock.as_bytes())
 }
 
 // "A refused reach returns no marks."
 fn say_refused(rt: &impl Print, r: Reach, refusal: Refusal) -> io::Result<()> {
     print!(rt; "refused {}", u8::from(refusal))?;
-    rt.print(if marked(&r.entries) || marked(&r.imports) || r.clock {
+    let marks = if marked(&r.entries) || marked(&r.imports) || r.clock {
         ", marks"
     } else {
         ", no marks"
-    })
+    };
+    rt.write_all(marks.as_bytes())
 }
 
 pub(crate) fn say_reach(rt: &impl Print, r: Reach) -> io::Result<()> {

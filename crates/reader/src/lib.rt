@@ -13,9 +13,9 @@ use table::Table;
 
 // How far reading came: the table so far and the bit after it.
 #[derive(Clone, Copy)]
-pub(crate) struct Stage {
-    at: usize,
-    table: Table,
+pub struct Stage {
+    pub at: usize,
+    pub table: Table,
 }
 
 // A script read in one pass: its table, where its block of labels stands, and the label of one entry.

@@ -77,12 +77,12 @@ pub record Putting (script : List ℕ) (k : ℕ) (text texts : List ℕ) (i : �
   pub put : TextsTo script (text_at k + i) texts
 
 -- none yet
-putting_none : {script text texts : List ℕ} {k : ℕ} → k < limits.slots → TextsTo script (text_at k) texts → text ≡ label_text script k → Putting script k text texts 0
+pub putting_none : {script text texts : List ℕ} {k : ℕ} → k < limits.slots → TextsTo script (text_at k) texts → text ≡ label_text script k → Putting script k text texts 0
 putting_none {script} {text} {texts} {k} slot so is =
     record { slot = slot; is = is; short = omega (arith, ap length is, label_text_short script k); within = omega arith; put = filled_at (text_at k + 0) so (omega arith) }
 
 -- one more
-putting_next : {script text texts : List ℕ} {k i : ℕ} → Putting script k text texts i → i < length text
+pub putting_next : {script text texts : List ℕ} {k i : ℕ} → Putting script k text texts i → i < length text
     → Putting script k text (set texts (text_at k + i) (get_or text i 0)) (i + 1)
 putting_next {script} {text} {texts} {k} {i} so there =
     record {
@@ -104,7 +104,7 @@ putting_to {script} {text} {texts} {k} (suc i) none within =
     rw (sym (add-one i)) (subst (λ (l : List ℕ). Putting script k text l (i + 1)) more (putting_next (putting_to i none (omega arith)) (omega arith)))
 
 -- all of them: what is behind them is zeros
-putting_all : {script text texts : List ℕ} {k i : ℕ} → Putting script k text texts i → length text ≤ i → TextsTo script (text_at (k + 1)) texts
+pub putting_all : {script text texts : List ℕ} {k i : ℕ} → Putting script k text texts i → length text ≤ i → TextsTo script (text_at (k + 1)) texts
 putting_all {script} {text} {texts} {k} {i} so all =
     filled_zeros (text_at (k + 1)) so.put (omega arith) (λ j h₁ h₂.
     ap (λ (entry : ℕ). get_or (label_text script entry) (j % limits.label) 0) {x = j / limits.label} {y = k} (omega arith)

@@ -14,14 +14,14 @@ fn one(rt: &impl Print, case: &[u8]) -> io::Result<()> {
     let (name, rest) = split_part(case.get(1..).unwrap_or(&[]));
     let (script, rest) = split_part(rest);
     rt.write_all(name)?;
-    rt.print(": ")?;
+    rt.write_all(b": ")?;
     match byte(case, 0) {
         b'R' => reading::read(rt, script)?,
         b'L' => reading::label(rt, script, rest)?,
         b'W' => writing::write(rt, script, rest)?,
-        _ => rt.print("no such case")?,
+        _ => rt.write_all(b"no such case")?,
     }
-    rt.print("\n")
+    rt.write_all(b"\n")
 }
 
 // Each program has its own, for reason (d): a room, a read and a call.

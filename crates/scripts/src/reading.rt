@@ -12,22 +12,24 @@ pub(crate) fn say_refused(rt: &impl Print, number: u8) -> io::Result<()> {
 
 // "A refused script returns the empty table (counts 0, all slots unused)."
 fn say_emptiness(rt: &impl Print, t: Table) -> io::Result<()> {
-    rt.print(if t == Table::empty() {
+    let emptiness = if t == Table::empty() {
         ", table empty"
     } else {
         ", table not empty"
-    })
+    };
+    rt.write_all(emptiness.as_bytes())
 }
 
 // The block of a refused script: its number, and an empty part.
 fn say_no_block(rt: &impl Print, s: &[u8], refusal: Refusal) -> io::Result<()> {
     let mut number: u8 = 0;
     let block = parts::block(s, &mut number);
-    rt.print(if number == u8::from(refusal) && block.is_empty() {
+    let shown = if number == u8::from(refusal) && block.is_empty() {
         ", no block"
     } else {
         ", a block"
-    })
+    };
+    rt.write_all(shown.as_bytes())
 }
 
 // The label of an entry, if it has one.
@@ -42,7 +44,7 @@ fn say_label(rt: &impl Print, s: &[u8], k: usize) -> io::Result<()> {
 }
 
 fn say_labels(rt: &impl Print, s: &[u8], n: usize) -> io::Result<()> {
-    rt.print(" | labels")?;
+    rt.write_all(b" | labels")?;
     for k in 0..n {
         say_label(rt, s, k)?;
     }
@@ -59,11 +61,12 @@ fn say_same(rt: &impl Print, s: &[u8], t: Table) -> io::Result<()> {
     let mut number: u8 = 0;
     let block = parts::block(s, &mut number);
     let mut space: [u8; ROOM] = [0xAA; ROOM];
-    rt.print(if same(s, t, block, &mut space) {
+    let sameness = if same(s, t, block, &mut space) {
         " | same"
     } else {
         " | differs"
-    })
+    };
+    rt.write_all(sameness.as_bytes())
 }
 
 pub(crate) fn read(rt: &impl Print, s: &[u8]) -> io::Result<()> {
@@ -89,9 +92,9 @@ pub(crate) fn label(rt: &impl Print, s: &[u8], rest: &[u8]) -> io::Result<()> {
     if number != 0 {
         say_refused(rt, number)?;
     } else {
-        rt.print("label")?;
+        rt.write_all(b"label")?;
     }
     print!(rt; ", {} bytes [", text.len())?;
     rt.write_all(text)?;
-    rt.print("]")
+    rt.write_all(b"]")
 }

@@ -3,15 +3,16 @@ use std::io;
 use table::Table;
 
 fn imports(rt: &impl Print, t: Table) -> io::Result<()> {
-    rt.print(" | imports")?;
+    rt.write_all(b" | imports")?;
     for event in t.events.iter().take(t.q) {
-        rt.print(if *event { " event" } else { " condition" })?;
+        let sort = if *event { " event" } else { " condition" };
+        rt.write_all(sort.as_bytes())?;
     }
     Ok(())
 }
 
 fn variables(rt: &impl Print, t: Table) -> io::Result<()> {
-    rt.print(" | variables")?;
+    rt.write_all(b" | variables")?;
     for slot in t.variables.iter().take(t.v) {
         print!(rt; " {}", slot)?;
     }
@@ -19,7 +20,7 @@ fn variables(rt: &impl Print, t: Table) -> io::Result<()> {
 }
 
 fn entries(rt: &impl Print, t: Table) -> io::Result<()> {
-    rt.print(" | entries")?;
+    rt.write_all(b" | entries")?;
     for slot in t.entries.iter().take(t.n) {
         print!(rt; " {};", slot)?;
     }

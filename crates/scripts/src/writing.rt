@@ -26,7 +26,7 @@ fn sum(s: &[u8]) -> u64 {
 // All bytes, or the sum of many.
 fn say_destination(rt: &impl Print, d: &[u8]) -> io::Result<()> {
     if d.len() <= 256 {
-        rt.print(":")?;
+        rt.write_all(b":")?;
         say_bytes(rt, d)
     } else {
         print!(rt; ", sum {}", sum(d))
@@ -37,15 +37,16 @@ fn into(rt: &impl Print, t: Table, block: &[u8], dst: &mut [u8]) -> io::Result<(
     let written = writer::write(t, block, dst);
     let size = written.size;
     match written.answer {
-        Ok(()) => rt.print("written")?,
+        Ok(()) => rt.write_all(b"written")?,
         Err(refusal) => say_refused(rt, u8::from(refusal))?,
     }
     print!(rt; ", size {size}")?;
-    rt.print(if rest_untouched(dst, size) {
+    let rest = if rest_untouched(dst, size) {
         ", rest untouched"
     } else {
         ", rest changed"
-    })?;
+    };
+    rt.write_all(rest.as_bytes())?;
     say_destination(rt, dst)
 }
 
@@ -59,6 +60,6 @@ pub(crate) fn write(rt: &impl Print, s: &[u8], rest: &[u8]) -> io::Result<()> {
     if length <= ROOM {
         into(rt, t, block, &mut space[0..length])
     } else {
-        rt.print("no such destination")
+        rt.write_all(b"no such destination")
     }
 }

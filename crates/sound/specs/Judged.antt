@@ -34,6 +34,10 @@ apart_judged sorts events q v k parts =
     and_then (judged_by sorts events q v k parts.first)
     (and_then (judged_by sorts events q v k parts.second) (judged_by sorts events q v k parts.third))
 
+-- the entry in a slot; past the slots, the first kind
+abbrev pub slot_entry : List Entry → ℕ → Entry
+slot_entry slots k = get_or slots k (Entry.ImportedCondition 0)
+
 -- "unused entry slots are the constant 0"
 abbrev pub zero_slot : Entry → Bool
 zero_slot slot = zero_constant (operands_of slot)

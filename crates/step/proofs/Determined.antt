@@ -12,6 +12,9 @@ use Rattle.step.proofs.closing.close.Reads as close
 use Rattle.step.proofs.reading.read.Reads as read
 use Rattle.step.proofs.report.import.Reads as import
 use Rattle.step.proofs.report.report_for.Reads as report_for
+use Rattle.step.proofs.telling.ToldTelling.condition.Reads as condition
+use Rattle.step.proofs.telling.ToldTelling.event.Reads as event
+use Rattle.step.proofs.telling.ToldTelling.valued.Reads as valued
 
 pub reading : Determined read.Post
 reading = by_value
@@ -27,6 +30,10 @@ importing =
           let t : Table = record { n = 0; q = a.1.1.0; v = 0; events = []; variables = []; entries = [] } in
           p t refl ∙ sym (q t refl);
     }
+
+-- what is told, as it is
+pub tellings : Determined condition.Post × Determined event.Post × Determined valued.Post
+tellings = (by_value, by_value, by_value)
 
 -- in each form in which a report is told
 module _ (T : RattleType) (laws : Laws T) (copied : IsCopy T) (form : forms.Ghosts T.Denot) (run : Dict) (clone : cloning.Ghosts T.Denot) (runs : Dict) where

@@ -28,11 +28,9 @@ fn edit(m: &mut Monitor, e: &[u8]) {
     }
 }
 
-// The monitor with every edit of a list, of eight bytes each. Each program has its own, for reason (d): two lines over edits of its own length.
-pub(crate) fn edited(m: Monitor, edits: &[u8]) -> Monitor {
-    let mut monitor = m;
+// Every edit of a list, of eight bytes each. Each program has its own, for reason (d): two lines over edits of its own length.
+pub(crate) fn edit_all(m: &mut Monitor, edits: &[u8]) {
     for e in edits.chunks_exact(8) {
-        edit(&mut monitor, e);
+        edit(m, e);
     }
-    monitor
 }

@@ -11,34 +11,34 @@ use std::io;
 use table::Table;
 
 // The monitor after what the letter asks for: a script read, a start again, a step, a step that is only tried, or edits.
-fn asked(rt: &impl Print, what: u8, m: Monitor, rest: &[u8]) -> io::Result<Monitor> {
+fn asked(rt: &impl Print, what: u8, m: &mut Monitor, rest: &[u8]) -> io::Result<()> {
     match what {
-        b'R' => running::read(rt, rest),
-        b'A' => running::again(rt, m),
-        b'S' => running::step(rt, m, rest),
-        b'T' => running::tried(rt, m, rest),
+        b'R' => *m = running::read(rt, rest)?,
+        b'A' => *m = running::again(rt, *m)?,
+        b'S' => *m = running::step(rt, *m, rest)?,
+        b'T' => *m = running::tried(rt, *m, rest)?,
         _ => {
-            rt.print("edited")?;
-            Ok(editing::edited(m, rest))
+            rt.write_all(b"edited")?;
+            editing::edit_all(m, rest);
         }
     }
+    Ok(())
 }
 
 // A case: a letter for what is asked, the name of the case, and the bytes that the letter asks for.
-fn one(rt: &impl Print, m: Monitor, case: &[u8]) -> io::Result<Monitor> {
+fn one(rt: &impl Print, m: &mut Monitor, case: &[u8]) -> io::Result<()> {
     let (name, rest) = split_part(case.get(1..).unwrap_or(&[]));
     rt.write_all(name)?;
-    rt.print(": ")?;
-    let next = asked(rt, byte(case, 0), m, rest)?;
-    rt.print("\n")?;
-    Ok(next)
+    rt.write_all(b": ")?;
+    asked(rt, byte(case, 0), m, rest)?;
+    rt.write_all(b"\n")
 }
 
 // Each case begins with the monitor that the case before it left.
 fn all(rt: &impl Print, cases: &[u8]) -> io::Result<()> {
     let mut m = monitor::start(Table::empty()).monitor;
     for case in Parts(cases) {
-        m = one(rt, m, case)?;
+        one(rt, &mut m, case)?;
     }
     Ok(())
 }

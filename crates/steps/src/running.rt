@@ -12,14 +12,15 @@ fn say_refused(rt: &impl Print, refusal: Refusal) -> io::Result<()> {
 // The time of the last accepted step, which is kept as one more.
 fn say_last(rt: &impl Print, last: u64) -> io::Result<()> {
     match last.checked_sub(1) {
-        None => rt.print(", last none"),
+        None => rt.write_all(b", last none"),
         Some(time) => print!(rt; ", last {time}"),
     }
 }
 
 // Whether a monitor holds a table.
 fn say_table(rt: &impl Print, m: Monitor, t: Table, same: &str) -> io::Result<()> {
-    rt.print(if m.table == t { same } else { "another table" })
+    let table = if m.table == t { same } else { "another table" };
+    rt.write_all(table.as_bytes())
 }
 
 // "A start on a table at fault gives 29 and the monitor of the empty table"
@@ -28,13 +29,13 @@ fn start(rt: &impl Print, t: Table) -> io::Result<Monitor> {
     let m = started.monitor;
     match started.answer {
         Ok(()) => {
-            rt.print("start accepted, ")?;
+            rt.write_all(b"start accepted, ")?;
             say_table(rt, m, t, "same table")?;
         }
         Err(refusal) => {
-            rt.print("start ")?;
+            rt.write_all(b"start ")?;
             say_refused(rt, refusal)?;
-            rt.print(", ")?;
+            rt.write_all(b", ")?;
             say_table(rt, m, Table::empty(), "empty table")?;
         }
     }
@@ -45,12 +46,12 @@ fn start(rt: &impl Print, t: Table) -> io::Result<Monitor> {
 // A refused script stands for the empty table.
 pub(crate) fn read(rt: &impl Print, s: &[u8]) -> io::Result<Monitor> {
     let script = reader::read(s);
-    rt.print("script ")?;
+    rt.write_all(b"script ")?;
     match script.answer {
         Ok(()) => rt.print(script.table.n)?,
         Err(refusal) => say_refused(rt, refusal)?,
     }
-    rt.print(", ")?;
+    rt.write_all(b", ")?;
     start(rt, script.table)
 }
 
@@ -61,21 +62,22 @@ pub(crate) fn again(rt: &impl Print, m: Monitor) -> io::Result<Monitor> {
 
 // "an accepted step's monitor holds the same table and that step's time as the last"
 fn say_accepted(rt: &impl Print, m: Monitor, r: Stepped) -> io::Result<()> {
-    rt.print("accepted, ")?;
+    rt.write_all(b"accepted, ")?;
     say_table(rt, r.monitor, m.table, "same table")?;
     say_last(rt, r.monitor.last)?;
-    rt.print(" |")?;
+    rt.write_all(b" |")?;
     say_results(rt, r, m.table.n)?;
     say_nothings(rt, r, m.table.n)
 }
 
 // "A refused step returns the monitor unchanged and 128 times 'no result'."
 fn say_unchanged(rt: &impl Print, m: Monitor, r: Stepped) -> io::Result<()> {
-    rt.print(if r.monitor == m {
+    let sameness = if r.monitor == m {
         ", same monitor"
     } else {
         ", another monitor"
-    })?;
+    };
+    rt.write_all(sameness.as_bytes())?;
     say_last(rt, r.monitor.last)?;
     say_nothings(rt, r, 0)
 }

@@ -3,7 +3,7 @@ use refusals::Refusal;
 use std::io;
 
 fn of_a_script(rt: &impl Print) -> io::Result<()> {
-    rt.print("script:")?;
+    rt.write_all(b"script:")?;
     for r in [
         Refusal::TooLong,
         Refusal::Cut,
@@ -25,11 +25,11 @@ fn of_a_script(rt: &impl Print) -> io::Result<()> {
     ] {
         print!(rt; " {}", u8::from(r))?;
     }
-    rt.print("\n")
+    rt.write_all(b"\n")
 }
 
 fn of_a_step(rt: &impl Print) -> io::Result<()> {
-    rt.print("step:")?;
+    rt.write_all(b"step:")?;
     for r in [
         Refusal::StepCut,
         Refusal::Time,
@@ -43,7 +43,7 @@ fn of_a_step(rt: &impl Print) -> io::Result<()> {
     ] {
         print!(rt; " {}", u8::from(r))?;
     }
-    rt.print("\n")
+    rt.write_all(b"\n")
 }
 
 pub fn all(rt: &impl Print) -> io::Result<()> {

@@ -45,6 +45,11 @@ module _ (words : List ℕ) where
       list_is state_words (word_at (monitor_in words)) 0 words long
       (λ j h. eqb-true _ _ (unless_accepted _ Refusal.Unsound (none_at_fault state_words (word_fault words) none j h)))
 
+  -- how many words there are is judged first
+  pub length_decides : (length words ≡ state_words → ⊥) → Err Refusal.Unsound ≡ state_fault words
+  unfolding state_fault
+  length_decides other = rw (ne_eqb (length words) state_words other)
+
   module _ {again : List ℕ} (is : again ≡ state_of (monitor_in words)) where
     -- the same words: the monitor decides
     pub same_decides : words ≡ again → {a : Answer} → a ≡ unsound (monitor_in words) → a ≡ state_fault words
@@ -58,7 +63,7 @@ module _ (words : List ℕ) where
     others_decide other = by (ℕ_discrete (length words) state_words)
       where
         by : Dec (length words ≡ state_words) → Err Refusal.Unsound ≡ state_fault words
-        by (no short) = rw (ne_eqb (length words) state_words short)
+        by (no short) = length_decides short
         by (yes long) =
             rw (
               eq-eqb (length words) state_words long,

@@ -10,10 +10,15 @@ use refusals::Refusal;
 pub fn state_fault(state: &[u64]) -> Result<(), Refusal>
     ensures { result ≡ state_fault state.now }
 {
+    let wrong_size = state.len() != WORDS;
+    if wrong_size {
+        return Err(Refusal::Unsound);
+    }
     let m = monitor_in(state);
     let mut again: [u64; WORDS] = [0; WORDS];
     pack(m, &mut again);
-    let same = state == &again[..];
+    let front = &state[..WORDS];
+    let same = front == &again[..];
     if same {
         unsound(m)
     } else {

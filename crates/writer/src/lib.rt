@@ -47,12 +47,14 @@ fn fault(t: Table, block: &[u8], room: usize) -> Result<(), Refusal>
     room_fault(packed_size(t) + block.len(), room)
 }
 
-// The block, copied behind the first bytes.
+// The block, copied behind the first bytes. Byte by byte, for reason (a): by `copy_from_slice` the archive for C needs `memmove` from outside.
 fn copy(dst: &mut [u8], from: usize, block: &[u8])
     requires { from + length block.now ≤ length dst.old }
     ensures { dst.new ≡ paste dst.old from block.now (length block.now) }
 {
-    dst[from..from + block.len()].copy_from_slice(block);
+    for (i, byte) in block.iter().enumerate() {
+        dst[from + i] = *byte;
+    }
 }
 
 // The packed table at the front, and the block behind it; how many bytes they are.

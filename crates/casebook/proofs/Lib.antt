@@ -1,0 +1,2 @@
+-- What is proved of the crate's contracts besides that its functions meet them.
+pub mod Determined
